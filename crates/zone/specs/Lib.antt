@@ -1,0 +1,4 @@
+pub mod Faults
+pub mod Valuations
+pub mod Calls
+pub mod Laws
