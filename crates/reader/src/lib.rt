@@ -2,8 +2,16 @@
 mod fault;
 mod ground;
 mod kind;
+mod listing;
+mod reader;
+mod record;
+mod stage;
 
 pub use fault::FileFault;
 pub use ground::Ground;
 pub use ground::Layer;
 pub use kind::Kind;
+pub use listing::Ending;
+pub use reader::Reader;
+pub use record::Record;
+pub use stage::Stage;
