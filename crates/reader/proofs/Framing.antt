@@ -70,15 +70,15 @@ none-joined : (es : List Entry) → joined encoded es ≡ [] → es ≡ []
 none-joined [] p = refl
 none-joined (e ∷ es) p = cc
 
-kinds-push : (es : List Entry) (e : Entry) → kinds (es ++ e ∷ []) ≡ kinds es ++ e .kind ∷ []
+pub kinds-push : (es : List Entry) (e : Entry) → kinds (es ++ e ∷ []) ≡ kinds es ++ e .kind ∷ []
 kinds-push es e = map-push (λ (x : Entry). x .kind) es e
 
 -- the stage tells whether the file has ended
-ended-has : (ks : List Kind) → ended (stage-of ks) ≡ has FileEnd ks
+pub ended-has : (ks : List Kind) → ended (stage-of ks) ≡ has FileEnd ks
 ended-has ks = grind arith
 
 module _ (bytes : List ℕ) (es : List Entry) (at : ℕ) (s : Stage) (before : ReadTo bytes es at s) where
-  read-length : length (joined encoded es) ≡ at
+  pub read-length : length (joined encoded es) ≡ at
   read-length = ap length (before .joins) ∙ length-take-le at bytes (before .within)
 
   ended-is : ended s ≡ has FileEnd (kinds es)

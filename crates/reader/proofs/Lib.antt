@@ -1,3 +1,5 @@
 pub mod Orders
 pub mod Stepping
 pub mod Framing
+pub mod Unique
+pub mod Adjoining

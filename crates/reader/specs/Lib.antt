@@ -6,3 +6,4 @@ pub mod Order
 pub mod Stages
 pub mod Steps
 pub mod Files
+pub mod Listings

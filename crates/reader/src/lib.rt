@@ -12,6 +12,8 @@ pub use ground::Ground;
 pub use ground::Layer;
 pub use kind::Kind;
 pub use listing::Ending;
+pub use listing::Listing;
+pub use listing::Placed;
 pub use reader::Reader;
 pub use record::Record;
 pub use stage::Stage;
