@@ -5,5 +5,6 @@ pub mod Entries
 pub mod Order
 pub mod Stages
 pub mod Steps
+pub mod Fields
 pub mod Files
 pub mod Listings

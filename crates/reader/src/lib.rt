@@ -1,5 +1,6 @@
 // The record file: grounds of refusal, record kinds, the order of records, and the reader.
 mod fault;
+mod fields;
 mod ground;
 mod kind;
 mod listing;
@@ -8,6 +9,7 @@ mod record;
 mod stage;
 
 pub use fault::FileFault;
+pub use fields::Fields;
 pub use ground::Ground;
 pub use ground::Layer;
 pub use kind::Kind;

@@ -2,6 +2,8 @@
 ghost use mathlib.Core.Path.{_≡_};
 ghost use Rattle.std.specs.Options.{mapped};
 ghost use Rattle.reader.specs.Entries.{entry-of, cut};
+ghost use Rattle.reader.specs.Fields.{fields-of};
+use crate::fields::Fields;
 use crate::kind::Kind;
 
 #[derive(Clone, Copy, Debug)]
@@ -33,6 +35,35 @@ impl<'a> Record<'a> {
             Record::Node(_) => Kind::Node,
             Record::Bound(_) => Kind::Bound,
             Record::FileEnd => Kind::FileEnd,
+        }
+    }
+
+    pub fn fields(self) -> Fields
+        ensures { λ r. ⌜ r ≡ fields-of (entry-of (self .entry)) ⌝ }
+    {
+        match self {
+            Record::Head(&[clocks, locations, start]) => Fields::Head { clocks, locations, start },
+            Record::Accepting(&[location]) => Fields::Accepting { location },
+            Record::Limit(&[location, clock, relation, low, high]) => {
+                let constant = u16::from_le_bytes([low, high]);
+                Fields::Limit { location, clock, relation, constant }
+            }
+            Record::Edge(&[source, target, zeros]) => Fields::Edge { source, target, zeros },
+            Record::Guard(&[clock, relation, low, high]) => {
+                let constant = u16::from_le_bytes([low, high]);
+                Fields::Guard { clock, relation, constant }
+            }
+            Record::SheetEnd => Fields::SheetEnd,
+            Record::Book(&[zone_kind, question]) => Fields::Book { zone_kind, question },
+            Record::Node(&[place, location, low, high]) => {
+                let number = u16::from_le_bytes([low, high]);
+                Fields::Node { place, location, number }
+            }
+            Record::Bound(&[i, j, strict, low, high]) => {
+                let constant = i16::from_le_bytes([low, high]);
+                Fields::Bound { i, j, strict, constant }
+            }
+            Record::FileEnd => Fields::FileEnd,
         }
     }
 
