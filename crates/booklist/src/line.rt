@@ -2,55 +2,96 @@
 ghost use Rattle.std.specs.declared.option.Option.the-variants.{Some};
 ghost use Rattle.booklist.specs.Lines.{record-line, ending-line};
 use reader::Ending;
-use reader::Placed;
-use reader::Record;
+use reader::Fields;
 use std::fmt;
 
+// A record at its offset.
 #[derive(Clone, Copy)]
-pub struct RecordLine<'a> {
-    pub placed: Placed<'a>,
+pub struct RecordLine {
+    pub offset: usize,
+    pub fields: Fields,
 }
 
-pub impl fmt::Display for RecordLine<'_> as RecordLineDisplay {
-    ghost shown = { λ l. Some (record-line (l .placed .offset) (l .placed .«record»)) };
+pub impl fmt::Display for RecordLine as RecordLineDisplay {
+    ghost shown = { λ l. Some (record-line (l .offset) (l .fields)) };
 
     fn fmt<W: fmt::Write>(&self, f: &mut fmt::Formatter<W>) -> fmt::Result {
-        let offset = self.placed.offset;
-        match self.placed.record {
-            Record::Head(&[clocks, locations, start]) => {
-                write!(f, "{offset} head clocks={clocks} locations={locations} start={start}")
+        let offset = self.offset;
+        match self.fields {
+            Fields::Head {
+                clocks,
+                locations,
+                start,
+            } => {
+                write!(
+                    f,
+                    "{offset} head clocks={clocks} locations={locations} start={start}"
+                )
             }
-            Record::Accepting(&[location]) => {
-                write!(f, "{offset} accepting location={location}")
+            Fields::Accepting { location } => write!(f, "{offset} accepting location={location}"),
+            Fields::Limit {
+                location,
+                clock,
+                relation,
+                constant,
+            } => {
+                write!(
+                    f,
+                    "{offset} limit location={location} clock={clock} relation={relation} constant={constant}"
+                )
             }
-            Record::Limit(&[location, clock, relation, low, high]) => {
-                let constant = u16::from_le_bytes([low, high]);
-                write!(f, "{offset} limit location={location} clock={clock} relation={relation} constant={constant}")
+            Fields::Edge {
+                source,
+                target,
+                zeros,
+            } => {
+                write!(
+                    f,
+                    "{offset} edge source={source} target={target} zeros={zeros}"
+                )
             }
-            Record::Edge(&[source, target, zeros]) => {
-                write!(f, "{offset} edge source={source} target={target} zeros={zeros}")
+            Fields::Guard {
+                clock,
+                relation,
+                constant,
+            } => {
+                write!(
+                    f,
+                    "{offset} guard clock={clock} relation={relation} constant={constant}"
+                )
             }
-            Record::Guard(&[clock, relation, low, high]) => {
-                let constant = u16::from_le_bytes([low, high]);
-                write!(f, "{offset} guard clock={clock} relation={relation} constant={constant}")
+            Fields::SheetEnd => write!(f, "{offset} sheet end"),
+            Fields::Book {
+                zone_kind,
+                question,
+            } => { write!(f, "{offset} book zone-kind={zone_kind} question={question}") }
+            Fields::Node {
+                place,
+                location,
+                number,
+            } => {
+                write!(
+                    f,
+                    "{offset} node place={place} location={location} number={number}"
+                )
             }
-            Record::SheetEnd => write!(f, "{offset} sheet end"),
-            Record::Book(&[zone_kind, question]) => {
-                write!(f, "{offset} book zone-kind={zone_kind} question={question}")
+            Fields::Bound {
+                i,
+                j,
+                strict,
+                constant,
+            } => {
+                write!(
+                    f,
+                    "{offset} bound i={i} j={j} strict={strict} constant={constant}"
+                )
             }
-            Record::Node(&[place, location, low, high]) => {
-                let number = u16::from_le_bytes([low, high]);
-                write!(f, "{offset} node place={place} location={location} number={number}")
-            }
-            Record::Bound(&[i, j, strict, low, high]) => {
-                let constant = i16::from_le_bytes([low, high]);
-                write!(f, "{offset} bound i={i} j={j} strict={strict} constant={constant}")
-            }
-            Record::FileEnd => write!(f, "{offset} file end"),
+            Fields::FileEnd => write!(f, "{offset} file end"),
         }
     }
 }
 
+// How the reading of a file ended.
 #[derive(Clone, Copy)]
 pub struct EndingLine {
     pub ending: Ending,

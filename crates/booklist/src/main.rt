@@ -18,9 +18,14 @@ fn main(rt: LibcRuntime) -> io::Result<()> {
     let _ = rt.stdin().take(READ_LIMIT).read_to_end(&mut input)?;
     let listing = Listing::of(heap, input.as_slice())?;
     for placed in listing.records.iter() {
-        let line = RecordLine { placed: *placed };
+        let line = RecordLine {
+            offset: placed.offset,
+            fields: placed.record.fields(),
+        };
         println!(rt, "{line}")?;
     }
-    let last = EndingLine { ending: listing.ending };
+    let last = EndingLine {
+        ending: listing.ending,
+    };
     println!(rt, "{last}")
 }

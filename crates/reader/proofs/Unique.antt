@@ -162,8 +162,8 @@ one-tail before at bytes (d ∷ ds) (e ∷ es) x y o s t =
     let step : hands d ≡ hands e = sym (tail-hands before at bytes d ds x o s) ∙ tail-hands before at bytes e es y o t in
     let same : d ≡ e = cc in
     let rest : joined encoded es ++ t .left ≡ joined encoded ds ++ s .left =
-          append-cancel-left (encoded e) _ _
-          (sym (append-assoc (encoded e) (joined encoded es) (t .left)) ∙ t .joins ∙ sym (s .joins) ∙ append-assoc (encoded d) (joined encoded ds) (s .left) ∙ ap (λ (f : Entry). encoded f ++ (joined encoded ds ++ s .left)) same) in
+    append-cancel-left (encoded e) _ _
+    (sym (append-assoc (encoded e) (joined encoded es) (t .left)) ∙ t .joins ∙ sym (s .joins) ∙ append-assoc (encoded d) (joined encoded ds) (s .left) ∙ ap (λ (f : Entry). encoded f ++ (joined encoded ds ++ s .left)) same) in
     let next = subst (λ (f : Entry). Tail (before ++ f .kind ∷ []) (at + length (encoded f)) (joined encoded es ++ t .left) es y) (sym same) (tail-more before at bytes e es y t) in
     let grown = in-order-push [] before (d .kind) ∙ and-from _ _ o (and-parts _ _ (s .ordered) .0) in
     let r = one-tail (before ++ d .kind ∷ []) (at + length (encoded d)) (joined encoded ds ++ s .left) ds es x y grown (tail-more before at bytes d ds x s) (subst (λ (bs : List ℕ). Tail (before ++ d .kind ∷ []) (at + length (encoded d)) bs es y) rest next) in

@@ -83,7 +83,11 @@ impl<'a> Reader<'a> {
 }
 
 // What the bytes from this offset on give at this stage: a record, with the stage after it, or the end.
-fn due_in<'a>(after: &'a [u8], offset: usize, stage: Stage) -> Result<Option<(Record<'a>, Stage)>, FileFault>
+fn due_in<'a>(
+    after: &'a [u8],
+    offset: usize,
+    stage: Stage,
+) -> Result<Option<(Record<'a>, Stage)>, FileFault>
     ensures { λ r. ⌜ Due stage (step-at stage offset (now (after .entry))) r ⌝ }
 {
     if let Stage::Ended = stage {
@@ -103,7 +107,12 @@ fn due_in<'a>(after: &'a [u8], offset: usize, stage: Stage) -> Result<Option<(Re
 }
 
 // A record of this kind at this offset and stage, whose body begins `rest`.
-fn whole<'a>(kind: Kind, rest: &'a [u8], offset: usize, stage: Stage) -> Result<Option<(Record<'a>, Stage)>, FileFault>
+fn whole<'a>(
+    kind: Kind,
+    rest: &'a [u8],
+    offset: usize,
+    stage: Stage,
+) -> Result<Option<(Record<'a>, Stage)>, FileFault>
     ensures { λ r. ⌜ Due stage (bodied stage offset kind (cut kind (now (rest .entry)))) r ⌝ }
 {
     let Some(record) = Record::cut(kind, rest) else {

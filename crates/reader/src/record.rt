@@ -42,26 +42,55 @@ impl<'a> Record<'a> {
         ensures { λ r. ⌜ r ≡ fields-of (entry-of (self .entry)) ⌝ }
     {
         match self {
-            Record::Head(&[clocks, locations, start]) => Fields::Head { clocks, locations, start },
+            Record::Head(&[clocks, locations, start]) => Fields::Head {
+                clocks,
+                locations,
+                start,
+            },
             Record::Accepting(&[location]) => Fields::Accepting { location },
             Record::Limit(&[location, clock, relation, low, high]) => {
                 let constant = u16::from_le_bytes([low, high]);
-                Fields::Limit { location, clock, relation, constant }
+                Fields::Limit {
+                    location,
+                    clock,
+                    relation,
+                    constant,
+                }
             }
-            Record::Edge(&[source, target, zeros]) => Fields::Edge { source, target, zeros },
+            Record::Edge(&[source, target, zeros]) => Fields::Edge {
+                source,
+                target,
+                zeros,
+            },
             Record::Guard(&[clock, relation, low, high]) => {
                 let constant = u16::from_le_bytes([low, high]);
-                Fields::Guard { clock, relation, constant }
+                Fields::Guard {
+                    clock,
+                    relation,
+                    constant,
+                }
             }
             Record::SheetEnd => Fields::SheetEnd,
-            Record::Book(&[zone_kind, question]) => Fields::Book { zone_kind, question },
+            Record::Book(&[zone_kind, question]) => Fields::Book {
+                zone_kind,
+                question,
+            },
             Record::Node(&[place, location, low, high]) => {
                 let number = u16::from_le_bytes([low, high]);
-                Fields::Node { place, location, number }
+                Fields::Node {
+                    place,
+                    location,
+                    number,
+                }
             }
             Record::Bound(&[i, j, strict, low, high]) => {
                 let constant = i16::from_le_bytes([low, high]);
-                Fields::Bound { i, j, strict, constant }
+                Fields::Bound {
+                    i,
+                    j,
+                    strict,
+                    constant,
+                }
             }
             Record::FileEnd => Fields::FileEnd,
         }
