@@ -1,6 +1,6 @@
 // The fields of a record by name and value.
 
-#[derive(Clone, Copy, PartialEq, Eq, Debug)]
+#[derive(Clone, Copy, PartialEq, Eq)]
 pub enum Fields {
     Head {
         clocks: u8,

@@ -7,7 +7,6 @@ use crate::fault::FileFaultDebug;
 use crate::fault::FileFaultPartialEq;
 use crate::reader::Reader;
 use crate::record::Record;
-use crate::record::RecordDebug;
 use std::alloc::AllocError;
 use std::alloc::Global;
 
@@ -19,7 +18,7 @@ pub enum Ending {
 }
 
 // A record and the offset of its kind byte.
-#[derive(Clone, Copy, Debug)]
+#[derive(Clone, Copy)]
 pub struct Placed<'a> {
     pub offset: usize,
     pub record: Record<'a>,

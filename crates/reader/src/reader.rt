@@ -11,12 +11,11 @@ use crate::fault::FileFault;
 use crate::kind::Kind;
 use crate::record::Record;
 use crate::stage::Stage;
-use crate::stage::StageDebug;
 
 // The longest file that is read, in bytes.
 pub const MAX_LEN: usize = 65_535;
 
-#[derive(Clone, Copy, Debug)]
+#[derive(Clone, Copy)]
 pub struct Reader<'a> {
     input: &'a [u8],
     offset: usize,
@@ -39,18 +38,10 @@ impl<'a> Reader<'a> {
         }
     }
 
-    // The offset of the record that is due.
     pub fn offset(&self) -> usize
         ensures { λ r. ⌜ r ≡ now (self .entry) .offset ⌝ }
     {
-        self.offset
-    }
-
-    // The stage that the records so far leave.
-    pub fn stage(&self) -> Stage
-        ensures { λ r. ⌜ r ≡ now (self .entry) .stage ⌝ }
-    {
-        self.stage
+        self.offset // of the record that is due
     }
 
     // The next record, or `None` at the end of the file.

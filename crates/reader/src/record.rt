@@ -6,7 +6,7 @@ ghost use Rattle.reader.specs.Fields.{fields-of};
 use crate::fields::Fields;
 use crate::kind::Kind;
 
-#[derive(Clone, Copy, Debug)]
+#[derive(Clone, Copy)]
 pub enum Record<'a> {
     Head(&'a [u8; 3]),
     Accepting(&'a [u8; 1]),
@@ -97,7 +97,7 @@ impl<'a> Record<'a> {
     }
 
     // The record of this kind whose body begins the given bytes, if they hold all of it.
-    pub fn cut(kind: Kind, after: &'a [u8]) -> Option<Record<'a>>
+    pub(crate) fn cut(kind: Kind, after: &'a [u8]) -> Option<Record<'a>>
         ensures { λ r. ⌜ mapped entry-of r ≡ cut kind (now (after .entry)) ⌝ }
     {
         match kind {

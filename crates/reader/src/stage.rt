@@ -7,7 +7,7 @@ ghost use Rattle.reader.specs.Stages.{stage-of, next-stage, Follows};
 ghost use Rattle.reader.specs.declared.kind.Kind.{Kind as AnyKind};
 use crate::kind::Kind;
 
-#[derive(Clone, Copy, PartialEq, Eq, Debug)]
+#[derive(Clone, Copy, PartialEq, Eq)]
 pub enum Stage {
     // Nothing has come.
     Start,
