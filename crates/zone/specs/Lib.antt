@@ -2,3 +2,15 @@ pub mod Faults
 pub mod Valuations
 pub mod Calls
 pub mod Laws
+pub mod Bounds
+pub mod Judging
+pub mod Tests
+pub mod Checked
+pub mod Grids
+pub mod Paths
+pub mod DifferenceRows
+pub mod DifferenceCalls
+pub mod DifferencePaths
+pub mod Ranges
+pub mod BoxRows
+pub mod BoxCalls

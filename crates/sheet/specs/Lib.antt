@@ -1,0 +1,12 @@
+pub mod Relations
+pub mod Automata
+pub mod Runs
+pub mod Faults
+pub mod Sheets
+pub mod Fields
+pub mod Described
+pub mod Judged
+pub mod Ready
+pub mod Taken
+pub mod Parts
+pub mod Drafts

@@ -1,0 +1,10 @@
+use mathlib.Core.Path.{_≡_}
+use mathlib.Core.Bool.{true}
+use lib.ListN.{getD}
+use Rattle.zone.specs.declared.bound.Bound.the-variants.{Free}
+use Rattle.zone.specs.Bounds.{implies}
+use Rattle.zone.specs.Tests.{every}
+use Rattle.zone.proofs.difference.bounds.is_blank.Given as given
+
+abbrev pub Inv-loop-k : given.InvT-loop-k
+Inv-loop-k l = every (λ h. implies Free (getD (l .bounds) h Free)) (l .k) ≡ true

@@ -1,0 +1,17 @@
+use mathlib.Core.Path.{_≡_, sym, _∙_}
+use mathlib.Core.Bool.{true, false}
+use native.Mathlib.Omega.{arith}
+use Rattle.std.proofs.shelf.Ways.{tells}
+use Rattle.zone.specs.Laws.{countable}
+use Rattle.zone.proofs.Rows.{same-row, whole-is, whole-void}
+use Rattle.zone.proofs.difference.row.DifferenceRow.whole.Needs as need
+
+pub returns-then-clocks-lt1 : need.returns-then-clocks-lt1
+returns-then-clocks-lt1 c =
+    let h : countable (c .args .clocks) ≡ false = grind (arith, tells) in
+    c .empty .ensures ∙ sym (whole-void (c .args .clocks) h)
+
+pub returns : need.returns
+returns c =
+    let h : countable (c .args .clocks) ≡ true = grind (arith, tells) in
+    same-row _ (c .whole .result) _ (c .whole .ensures) ∙ sym (whole-is (c .args .clocks) h)
