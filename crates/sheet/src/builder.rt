@@ -54,7 +54,7 @@ pub struct Builder {
 
 impl Builder {
     // Nothing has come.
-    pub fn new(heap: Global) -> Builder
+    pub(crate) fn new(heap: Global) -> Builder
         ensures { λ r. ⌜ built r ≡ blank-contents ⌝ }
     {
         Builder {
@@ -67,7 +67,7 @@ impl Builder {
     }
 
     // What a record adds, or why it is refused.
-    pub fn judge(&self, record: Record<'_>) -> Result<Part, SheetFault>
+    pub(crate) fn judge(&self, record: Record<'_>) -> Result<Part, SheetFault>
         ensures { λ r. ⌜ Judges (built (now (self .entry))) (entry-of («record» .entry)) r ⌝ }
     {
         let stage = self.stage.after(record.kind());
@@ -131,7 +131,7 @@ impl Builder {
     }
 
     // Adds a part that was judged.
-    pub fn add(&mut self, part: Part) -> Result<(), SheetFault>
+    pub(crate) fn add(&mut self, part: Part) -> Result<(), SheetFault>
         requires { ⌜ Room (built (now self)) part ⌝ }
         ensures { λ r. ⌜ Adds (built (now (self .entry))) part r (built (now (self .exit))) ⌝ }
     {

@@ -17,7 +17,7 @@ use std::alloc::Global;
 use std::alloc::Refused;
 
 // So many locations, without limits and not accepting.
-pub fn plain_locations(heap: Global, count: u8) -> Result<Vec<Location>, AllocError>
+pub(crate) fn plain_locations(heap: Global, count: u8) -> Result<Vec<Location>, AllocError>
     ensures { λ r. ⌜ made r (λ v. map location-of (vec-items v) ≡ replicate count plain) ⌝ }
 {
     let mut locations = Vec::new(heap);
@@ -31,7 +31,7 @@ pub fn plain_locations(heap: Global, count: u8) -> Result<Vec<Location>, AllocEr
 }
 
 // The clocks that the bits of a byte stand for, in ascending order.
-pub fn named_clocks(heap: Global, byte: u8) -> Result<Vec<u8>, AllocError>
+pub(crate) fn named_clocks(heap: Global, byte: u8) -> Result<Vec<u8>, AllocError>
     ensures { λ r. ⌜ made r (λ v. vec-items v ≡ clocks-named byte) ⌝ }
 {
     let mut clocks = Vec::new(heap);
@@ -44,7 +44,7 @@ pub fn named_clocks(heap: Global, byte: u8) -> Result<Vec<u8>, AllocError>
 }
 
 // Makes a location accepting.
-pub fn accept(locations: &mut Vec<Location>, number: u8)
+pub(crate) fn accept(locations: &mut Vec<Location>, number: u8)
     ensures { λ _. ⌜ map location-of (vec-items (now (locations .exit))) ≡ with-location accepted (map location-of (vec-items (now (locations .entry)))) number ⌝ }
 {
     if let Some(location) = locations.get_mut(usize::from(number)) {
@@ -53,7 +53,7 @@ pub fn accept(locations: &mut Vec<Location>, number: u8)
 }
 
 // Adds an atom to the limit of a location.
-pub fn push_limit(
+pub(crate) fn push_limit(
     locations: &mut Vec<Location>,
     number: u8,
     atom: Atom,
@@ -67,7 +67,7 @@ pub fn push_limit(
 }
 
 // Adds an atom to the guard of the last edge.
-pub fn push_guard(edges: &mut Vec<Edge>, atom: Atom) -> Result<(), Refused<Atom>>
+pub(crate) fn push_guard(edges: &mut Vec<Edge>, atom: Atom) -> Result<(), Refused<Atom>>
     ensures { λ r. ⌜ map edge-of (vec-items (now (edges .exit))) ≡ cond (isOk r) (guarded atom (map edge-of (vec-items (now (edges .entry))))) (map edge-of (vec-items (now (edges .entry)))) ⌝ }
 {
     match edges.last_mut() {

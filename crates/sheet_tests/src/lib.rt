@@ -16,7 +16,7 @@ use std::alloc::Global;
 mod tests;
 
 // The sheet of a head, an accepting location, a limit, an edge and its guard.
-pub fn example(heap: Global) -> Result<Sheet, SheetFault>
+pub(crate) fn example(heap: Global) -> Result<Sheet, SheetFault>
     ensures { λ r. ⌜ made r (λ s. automaton-of s ≡ example-automaton) ⌝ }
 {
     let mut draft = Draft::new(heap);
@@ -29,7 +29,7 @@ pub fn example(heap: Global) -> Result<Sheet, SheetFault>
 }
 
 // A draft of the records of a file, up to the end of the sheet.
-pub fn draft_of_file(heap: Global, bytes: &[u8]) -> Result<Draft, SheetFault> {
+pub(crate) fn draft_of_file(heap: Global, bytes: &[u8]) -> Result<Draft, SheetFault> {
     let mut draft = Draft::new(heap);
     let mut reader = Reader::new(bytes);
     for _ in 0..bytes.len() {
@@ -42,7 +42,7 @@ pub fn draft_of_file(heap: Global, bytes: &[u8]) -> Result<Draft, SheetFault> {
 }
 
 // Gives a draft each of the records that the bytes hold, in any order, up to the first refusal.
-pub fn take_all(draft: &mut Draft, bytes: &[u8]) -> Result<(), SheetFault> {
+pub(crate) fn take_all(draft: &mut Draft, bytes: &[u8]) -> Result<(), SheetFault> {
     let mut rest = bytes;
     for _ in 0..bytes.len() {
         let Some((byte, after)) = rest.split_first() else {
@@ -61,7 +61,7 @@ pub fn take_all(draft: &mut Draft, bytes: &[u8]) -> Result<(), SheetFault> {
 }
 
 // Gives a draft the same record several times, up to the first refusal.
-pub fn take_times(draft: &mut Draft, times: u16, bytes: &[u8]) -> Result<(), SheetFault> {
+pub(crate) fn take_times(draft: &mut Draft, times: u16, bytes: &[u8]) -> Result<(), SheetFault> {
     for _ in 0..times {
         take_all(draft, bytes)?;
     }
@@ -69,7 +69,7 @@ pub fn take_times(draft: &mut Draft, times: u16, bytes: &[u8]) -> Result<(), She
 }
 
 // Whether each of some records meets this ground, 0 for none, in a draft that has taken the records of `before`.
-pub fn each_meets<const N: usize>(
+pub(crate) fn each_meets<const N: usize>(
     heap: Global,
     before: &[u8],
     records: &[[u8; N]],
@@ -87,7 +87,7 @@ pub fn each_meets<const N: usize>(
 }
 
 // The number of the ground on which a draft of these records is not ready, 0 if it is.
-pub fn ready_ground_of(heap: Global, bytes: &[u8]) -> u8 {
+pub(crate) fn ready_ground_of(heap: Global, bytes: &[u8]) -> u8 {
     let mut draft = Draft::new(heap);
     match take_all(&mut draft, bytes) {
         Ok(()) => number(draft.ready()),
@@ -96,7 +96,7 @@ pub fn ready_ground_of(heap: Global, bytes: &[u8]) -> u8 {
 }
 
 // The sheet of these records.
-pub fn sheet_of(heap: Global, bytes: &[u8]) -> Result<Sheet, SheetFault> {
+pub(crate) fn sheet_of(heap: Global, bytes: &[u8]) -> Result<Sheet, SheetFault> {
     let mut draft = Draft::new(heap);
     take_all(&mut draft, bytes)?;
     let sheet = draft.seal();
@@ -104,7 +104,7 @@ pub fn sheet_of(heap: Global, bytes: &[u8]) -> Result<Sheet, SheetFault> {
 }
 
 // The number of an answer's ground: 0 for none, 255 for want of memory.
-pub fn number(answer: Result<(), SheetFault>) -> u8 {
+pub(crate) fn number(answer: Result<(), SheetFault>) -> u8 {
     match answer {
         Ok(()) => 0,
         Err(fault) => match fault.ground() {

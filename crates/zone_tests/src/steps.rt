@@ -4,7 +4,7 @@ use zone::Zone;
 use zone::ZoneFault;
 
 // x_i − x_j ≤ constant.
-pub fn at_most<Z: Zone>(zone: &Z, i: u8, j: u8, constant: i32) -> Result<Z, ZoneFault> {
+pub(crate) fn at_most<Z: Zone>(zone: &Z, i: u8, j: u8, constant: i32) -> Result<Z, ZoneFault> {
     let strict = false;
     zone.constrain(Constraint {
         i,
@@ -15,7 +15,7 @@ pub fn at_most<Z: Zone>(zone: &Z, i: u8, j: u8, constant: i32) -> Result<Z, Zone
 }
 
 // x_i − x_j < constant.
-pub fn below<Z: Zone>(zone: &Z, i: u8, j: u8, constant: i32) -> Result<Z, ZoneFault> {
+pub(crate) fn below<Z: Zone>(zone: &Z, i: u8, j: u8, constant: i32) -> Result<Z, ZoneFault> {
     let strict = true;
     zone.constrain(Constraint {
         i,
@@ -26,11 +26,11 @@ pub fn below<Z: Zone>(zone: &Z, i: u8, j: u8, constant: i32) -> Result<Z, ZoneFa
 }
 
 // The zone of two clocks at 0.
-pub fn origin<Z: Zone>() -> Result<Z, ZoneFault> {
+pub(crate) fn origin<Z: Zone>() -> Result<Z, ZoneFault> {
     at_most(&at_most(&Z::whole(2), 1, 0, 0)?, 2, 0, 0)
 }
 
-pub fn refusal<Z: Zone>(result: Result<Z, ZoneFault>) -> Option<ZoneFault> {
+pub(crate) fn refusal<Z: Zone>(result: Result<Z, ZoneFault>) -> Option<ZoneFault> {
     match result {
         Ok(_) => None,
         Err(fault) => Some(fault),
@@ -38,6 +38,6 @@ pub fn refusal<Z: Zone>(result: Result<Z, ZoneFault>) -> Option<ZoneFault> {
 }
 
 // Whether each zone lies in the other.
-pub fn same<Z: Zone>(a: &Z, b: &Z) -> bool {
+pub(crate) fn same<Z: Zone>(a: &Z, b: &Z) -> bool {
     a.is_within(b) && b.is_within(a)
 }
