@@ -17,6 +17,7 @@ pub use fault::BookFault;
 pub use history::play;
 pub use place::PLACES;
 pub use place::Place;
+pub use place::PlaceClone;
 pub use question::Emptiness;
 pub use question::EmptinessQuestion;
 pub use question::Question;
