@@ -97,7 +97,7 @@ impl<'a> Record<'a> {
     }
 
     // The record of this kind whose body begins the given bytes, if they hold all of it.
-    pub(crate) fn cut(kind: Kind, after: &'a [u8]) -> Option<Record<'a>>
+    pub fn cut(kind: Kind, after: &'a [u8]) -> Option<Record<'a>>
         ensures { λ r. ⌜ mapped entry-of r ≡ cut kind (now (after .entry)) ⌝ }
     {
         match kind {
