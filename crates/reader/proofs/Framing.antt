@@ -1,21 +1,21 @@
 -- A step of the reader hands out the next record of the file, or it is how reading ends.
-use Rattle.std.proofs.Common.{◌≡◌, ℕ, suc, ◌+◌, ◌<◌, ◌≤◌, Bool, true, false, cond, ◌&&◌, eqb, ltb, leb, List, [], ◌∷◌, ◌++◌, map, length, take, drop, Some, None, Option, unwrap_or, sym, refl, ap, ◌∙◌, subst, ⊎_elim, append_assoc, append-nil, arith, take-add}
+use Rattle.std.proofs.Common.{◌≡◌, ℕ, ◌+◌, ◌<◌, ◌≤◌, Bool, true, false, cond, eqb, ltb, leb, List, [], ◌∷◌, ◌++◌, length, take, drop, Some, None, Option, unwrap_or, sym, refl, ap, ◌∙◌, subst, ⊎_elim, append_assoc, append-nil, arith, take-add}
 use Rattle.std.proofs.ByRecursion.{All-push}
 use Rattle.std.proofs.lemmas.List.{length-take-le, length-drop, take-append-drop, map_push}
 use Rattle.std.proofs.lemmas.Bool.{ltb-true, ltb-false, leb-true, leb-false, eqb-true, and_from, cases_lt}
 use Rattle.std.specs.List.{flat_map}
-use Rattle.reader.specs.Entries.{Entry, entry, encoded, cut}
-use Rattle.reader.specs.Files.{kinds, Whole, Stops, at_end, past_end, missing, unknown, short, misplaced, Ends, too_long, stops, MadeOf, ReadTo, Continues}
+use Rattle.reader.specs.Entries.{Entry, entry, encoded}
+use Rattle.reader.specs.Files.{kinds, Whole, Stops, at_end, past_end, missing, unknown, short, misplaced, too_long, stops, MadeOf, ReadTo, Continues}
 use Rattle.reader.specs.Kinds.{byte_of, body_length, all_kinds, kind_among, kind_of}
-use Rattle.reader.specs.Order.{has, allowed, in_order}
+use Rattle.reader.specs.Order.{has, in_order}
 use Rattle.reader.specs.Stages.{stage_of, next_stage, Follows}
 use Rattle.reader.specs.Steps as steps
 use Rattle.reader.specs.Steps.{Step, hands, ends, refuses, ended, placed, bodied, known, due, step_at, step_in, max_length}
-use Rattle.reader.specs.declared.fault.FileFault.TheVariants.{UnknownKind, Truncated, OutOfPlace, TooLong}
+use Rattle.reader.specs.declared.fault.FileFault.TheVariants.{TooLong}
 use Rattle.reader.specs.declared.kind.Kind.{Kind}
 use Rattle.reader.specs.declared.kind.Kind.TheVariants.{Head, Accepting, Limit, Edge, Guard, SheetEnd, Book, Node, Bound, FileEnd}
 use Rattle.reader.specs.declared.listing.Ending.{Ending}
-use Rattle.reader.specs.declared.listing.Ending.TheVariants.{End, Refused}
+use Rattle.reader.specs.declared.listing.Ending.TheVariants.{Refused}
 use Rattle.reader.specs.declared.stage.Stage.{Stage}
 use Rattle.reader.proofs.Orders.{in_order_push, follows}
 

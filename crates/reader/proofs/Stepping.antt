@@ -10,6 +10,7 @@ use Rattle.reader.specs.declared.fault.FileFault.{FileFault}
 use Rattle.reader.specs.declared.fault.FileFault.TheVariants.{TooLong}
 use Rattle.reader.specs.declared.kind.Kind.{Kind}
 use Rattle.reader.specs.declared.stage.Stage.{Stage}
+use Rattle.reader.specs.declared.stage.Stage.TheVariants.{Start, Sheet, Edges, Sealed, Book, Nodes, Ended}
 
 pub some_from_cond : {X : Type 0} (t : Bool) (x e : X) → cond t (Some x) None ≡ Some e → (t ≡ true) × (x ≡ e)
 some_from_cond true x e p = (refl, cc)
@@ -25,6 +26,19 @@ cut_kind k rest e p = ap (λ (x : Entry). x.kind) (sym (some_from_cond (leb (bod
 -- the file is short enough
 pub step_short : (bytes : List ℕ) (s : Stage) (at : ℕ) → length bytes ≤ max_length → step_in bytes s at ≡ step_at s at (drop at bytes)
 step_short bytes s at h = cond-false (ltb max_length (length bytes)) (refuses TooLong) (step_at s at (drop at bytes)) (le-ltb max_length (length bytes) h)
+
+not_ended : (s : Stage) → (s ≡ Ended → ⊥) → ended s ≡ false
+not_ended Start h = refl
+not_ended Sheet h = refl
+not_ended Edges h = refl
+not_ended Sealed h = refl
+not_ended Book h = refl
+not_ended Nodes h = refl
+not_ended Ended h = absurd (h refl)
+
+-- before the end, a kind byte and what follows it give a record of that kind
+pub step_of_kind : (s : Stage) (at b : ℕ) (k : Kind) (rest bytes : List ℕ) → (s ≡ Ended → ⊥) → bytes ≡ b ∷ rest → kind_of b ≡ Some k → step_at s at bytes ≡ bodied s at k (cut k rest)
+step_of_kind s at b k rest bytes h is p = rw (is, not_ended s h, p) refl
 
 -- a record that is handed out has a whole body, which lies in the bytes
 pub record Reaches (bytes : List ℕ) (e : Entry) : Type 0 where

@@ -1,16 +1,15 @@
 -- A file is made of one list of records, and its reading ends in one way.
-use Rattle.std.proofs.Common.{◌≡◌, ℕ, suc, ◌+◌, ◌<◌, ◌≤◌, Bool, true, false, cond, ◌&&◌, ltb, leb, List, [], ◌∷◌, ◌++◌, length, take, Some, None, Option, sym, refl, ap, ◌∙◌, subst, append_assoc, append-nil, arith}
+use Rattle.std.proofs.Common.{◌≡◌, ℕ, ◌+◌, ◌≤◌, Bool, true, false, List, [], ◌∷◌, ◌++◌, length, take, Some, None, Option, sym, refl, ap, ◌∙◌, subst, append_assoc, append-nil, arith}
 use Rattle.std.proofs.lemmas.List.{length-append, take_at, append_cancel_left}
-use Rattle.std.proofs.lemmas.Bool.{and_parts, and_from, cond-true, cond-false, le-leb, lt-leb, lt-ltb, le-ltb}
+use Rattle.std.proofs.lemmas.Bool.{and_parts, and_from, cond-true, cond-false, le-leb, lt-leb}
 use Rattle.std.specs.List.{flat_map, AllByRecursion as All}
-use Rattle.reader.specs.Entries.{Entry, entry, encoded, cut}
+use Rattle.reader.specs.Entries.{Entry, entry, encoded}
 use Rattle.reader.specs.Files.{kinds, Whole, Stops, at_end, past_end, missing, unknown, short, misplaced, Ends, too_long, stops, MadeOf}
 use Rattle.reader.specs.Kinds.{byte_of, body_length, kind_of}
 use Rattle.reader.specs.Order.{has, allowed, in_order}
 use Rattle.reader.specs.Stages.{stage_of, next_stage, Follows}
 use Rattle.reader.specs.Steps as steps
 use Rattle.reader.specs.Steps.{Step, hands, ends, refuses, ended, placed, bodied, known, due, step_at, max_length}
-use Rattle.reader.specs.declared.fault.FileFault.TheVariants.{UnknownKind, Truncated, OutOfPlace, TooLong}
 use Rattle.reader.specs.declared.kind.Kind.{Kind}
 use Rattle.reader.specs.declared.kind.Kind.TheVariants.{FileEnd}
 use Rattle.reader.specs.declared.listing.Ending.{Ending}

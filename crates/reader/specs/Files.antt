@@ -1,12 +1,11 @@
 -- The records of which a file is made, and how its reading ends.
-use Rattle.std.specs.Prelude.{◌≡◌, ℕ, ◌+◌, ◌<◌, ◌≤◌, Bool, true, false, List, [], ◌∷◌, ◌++◌, map, length, take, ◌≢◌}
+use Rattle.std.specs.Prelude.{◌≡◌, ℕ, ◌+◌, ◌<◌, ◌≤◌, true, false, List, [], ◌∷◌, ◌++◌, map, length, take, ◌≢◌}
 use Rattle.std.specs.List.{flat_map, AllByRecursion as All}
 use Rattle.reader.specs.Entries.{Entry, encoded}
 use Rattle.reader.specs.Kinds.{byte_of, body_length}
 use Rattle.reader.specs.Order.{has, allowed, in_order}
 use Rattle.reader.specs.Stages.{stage_of}
 use Rattle.reader.specs.Steps.{Step, hands, ends, refuses, reach, stage_after, max_length}
-use Rattle.reader.specs.declared.fault.FileFault.{FileFault}
 use Rattle.reader.specs.declared.fault.FileFault.TheVariants.{UnknownKind, Truncated, OutOfPlace, TooLong}
 use Rattle.reader.specs.declared.kind.Kind.{Kind}
 use Rattle.reader.specs.declared.kind.Kind.TheVariants.{FileEnd}

@@ -1,5 +1,5 @@
 -- The stage that a sequence of records leaves, and the stage after one more.
-use Rattle.std.specs.Prelude.{◌≡◌, Bool, true, false, cond, List, [], ◌∷◌, ◌++◌, Some, None, Option, ◌==◌}
+use Rattle.std.specs.Prelude.{◌≡◌, true, false, cond, List, [], ◌∷◌, ◌++◌, Some, None, Option, ◌==◌}
 use Rattle.reader.specs.Kinds.{byte_of}
 use Rattle.reader.specs.Order.{has, allowed}
 use Rattle.reader.specs.declared.kind.Kind.{Kind}

@@ -1,4 +1,6 @@
 // The record file: grounds of refusal, record kinds, the order of records, and the reader.
+#![tactic(auto)]
+
 mod fault;
 mod fields;
 mod ground;

@@ -4,7 +4,7 @@ use Rattle.reader.specs.Steps.{step_of}
 use Rattle.reader.proofs.Adjoining.{adjacent_push, listed_more, listed_all}
 use Rattle.reader.proofs.Framing.{read_length}
 use Rattle.reader.proofs.listing.Listing.of.Goals as goal
-use Rattle.reader.proofs.listing.Listing.of.Goals.{in-Err, in-Ok+in-default}
+use Rattle.reader.proofs.listing.Listing.of.Goals.{in-Err, in-Ok+in_default}
 
 pub loop-next-preserved : goal.loop-next-preserved
 loop-next-preserved c =
@@ -13,7 +13,7 @@ loop-next-preserved c =
     let items = vec_items c.loop-next.records in
     let inv = c.loop-next.invariant in
     let next = c.next.ensures in
-    let pushed = c.in-ok-push.ensures.items in
+    let pushed = c.in_ok-push.ensures.items in
     let is = ap step_of (c.in-Ok.is ∙ ap Ok c.in-Some.is) in (
       next.input ∙ inv.0,
       listed_more bytes reader.input.now items _ _ reader.offset _ reader.stage _ _ is inv.0 pushed next.offset next.stage inv.1 (next.reads (entries items)),
@@ -28,5 +28,5 @@ returns c =
     let all = listed_all c.args.input.now reader.input.now items reader.offset reader.stage in
     elim c.match-next.branch [
       | in-Err w ↦ subst (Lists c.args.input.now items) (sym w.ending-is) (all _ _ (ap step_of w.in-Err.is) inv.0 inv.1 (c.next.ensures.reads (entries items)) inv.2)
-      | in-Ok+in-default w ↦ subst (Lists c.args.input.now items) (sym w.ending-is) (all _ _ (ap step_of (w.in-Ok.is ∙ ap Ok w.in-default.is)) inv.0 inv.1 (c.next.ensures.reads (entries items)) inv.2)
+      | in-Ok+in_default w ↦ subst (Lists c.args.input.now items) (sym w.ending-is) (all _ _ (ap step_of (w.in-Ok.is ∙ ap Ok w.in_default.is)) inv.0 inv.1 (c.next.ensures.reads (entries items)) inv.2)
     ]

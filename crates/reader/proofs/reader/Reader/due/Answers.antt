@@ -1,11 +1,9 @@
-use Rattle.std.proofs.Common.{sym, subst}
 use Rattle.std.proofs.lemmas.List.{take_rest}
-use Rattle.reader.specs.Steps.{Step, Due}
 use Rattle.reader.proofs.Stepping.{step_short}
 use Rattle.reader.proofs.reader.Reader.due.Goals as goal
 
 pub returns : goal.returns
 returns c =
     let reader = c.args.self.now in
-    let step = rw (take_rest reader.input.now reader.offset) at c.due-in.ensures in
-    rw (step_short reader.input.now reader.stage reader.offset c.if-self-gt-MAX-LEN.false) step
+    let step = rw (take_rest reader.input.now reader.offset) at c.due_in.ensures in
+    rw (step_short reader.input.now reader.stage reader.offset c.if-self-gt-MAX_LEN.false) step
