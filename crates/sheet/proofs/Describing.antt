@@ -1,20 +1,20 @@
 -- What one more record changes in the automaton that records describe.
-use Rattle.std.proofs.Common.{◌≡◌, ℕ, zero, suc, ◌+◌, ◌<◌, ◌≤◌, Bool, true, false, cond, ◌&&◌, ◌||◌, eqb, List, [], ◌∷◌, ◌++◌, map, length, get_or, set, replicate, Some, None, filter, Option, sym, refl, ap, ◌∙◌, ⊎_elim, append-nil, arith}
+use Rattle.std.proofs.Common.{◌≡◌, ℕ, zero, suc, ◌+◌, ◌<◌, Bool, true, false, cond, ◌||◌, List, [], ◌∷◌, ◌++◌, map, length, get_or, replicate, Some, None, filter, sym, refl, ap, ◌∙◌, ⊎_elim, arith}
 use Rattle.std.proofs.lemmas.List.FromFn.{fill_by_all, get_or-map-range_with_len, length-map-range_with_len}
 use Rattle.std.proofs.lemmas.List.Elements.{filter-append}
 use Rattle.std.proofs.lemmas.List.{get_or-set_same, get_or-set_other, length-set, length-append, map-append}
-use Rattle.std.proofs.lemmas.Bool.{eq-eqb, ne_eqb, cases_eq}
+use Rattle.std.proofs.lemmas.Bool.{cases_eq}
 use Rattle.std.specs.List.{range_with_len}
 use Rattle.reader.specs.Entries.{Entry, entry}
 use Rattle.reader.specs.Files.{kinds}
 use Rattle.reader.specs.Order.{has}
 use Rattle.reader.specs.declared.kind.Kind.{Kind}
 use Rattle.reader.specs.declared.kind.Kind.TheVariants as kind
-use Rattle.sheet.specs.Automata.{Location, Edge, Automaton}
-use Rattle.sheet.specs.Described.{any, count, head_of, concerns, described_location, guard_before_edge, described_edge, described_edges, described_by, described}
-use Rattle.sheet.specs.Fields.{is, field, atom_at}
-use Rattle.sheet.specs.Parts.{accepted, limited, with_location, guarded}
-use Rattle.sheet.specs.Sheets.{plain, blank_automaton}
+use Rattle.sheet.specs.Automata.{Location, Edge}
+use Rattle.sheet.specs.Described.{any, count, head_of, concerns, described_location, guard_before_edge, described_edge, described_edges}
+use Rattle.sheet.specs.Fields.{is, atom_at}
+use Rattle.sheet.specs.Parts.{with_location, guarded}
+use Rattle.sheet.specs.Sheets.{plain}
 use Rattle.sheet.specs.declared.atom.Atom.{Atom}
 
 -- tests

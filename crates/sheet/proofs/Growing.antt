@@ -1,7 +1,7 @@
 -- One element of a list changed, one added, and the lists that grow by a loop.
-use Rattle.std.proofs.Common.{◌≡◌, ℕ, suc, ◌+◌, ◌-◌, ◌/◌, ◌%◌, ◌^◌, ◌<◌, ◌≤◌, Bool, true, false, cond, eqb, List, [], ◌∷◌, ◌++◌, map, length, get_or, set, replicate, filter, sym, refl, ap, ◌∙◌, sub-one, arith}
+use Rattle.std.proofs.Common.{◌≡◌, ℕ, suc, ◌+◌, ◌-◌, ◌/◌, ◌%◌, ◌^◌, ◌<◌, ◌≤◌, Bool, true, false, cond, eqb, List, [], ◌∷◌, ◌++◌, map, length, get_or, set, filter, sym, refl, ap, ◌∙◌, arith}
 use Rattle.std.proofs.lemmas.List.FromFn.{filter_of_map_range_with_len_more}
-use Rattle.std.proofs.lemmas.List.{map-set, map_push, map-id, get_or-map, set-get_or, set_past, length-map, append-nil}
+use Rattle.std.proofs.lemmas.List.{map-set, map-id, get_or-map, set-get_or, set_past, length-map}
 use Rattle.std.specs.List.{range_with_len}
 use Rattle.sheet.specs.Automata.{Location, Edge}
 use Rattle.sheet.specs.Fields.{names}

@@ -2,7 +2,7 @@
 use Rattle.std.proofs.Common.{◌≡◌, ℕ, ◌<◌, ◌≤◌, List, map, length, get_or, Some, None, Option, sym, ap, ◌∙◌, arith, Bor, MatchOption}
 use Rattle.std.proofs.lemmas.List.{get_or-map, get_or_past, length-map}
 use Rattle.std.specs.Slice.{IsGetResult}
-use Rattle.sheet.specs.Automata.{Location, Automaton}
+use Rattle.sheet.specs.Automata.{Automaton}
 use Rattle.sheet.specs.Runs.{Valuation, Run, starts, steps}
 use Rattle.sheet.specs.Sheets.{plain, location_of}
 use Rattle.sheet.specs.declared.sheet.Location as code

@@ -1,20 +1,17 @@
 -- Atoms at the origin, and whether a draft is ready.
-use Rattle.std.proofs.Common.{◌≡◌, ℕ, zero, suc, ◌+◌, ◌*◌, ◌<◌, ◌≤◌, Bool, true, false, cond, ◌&&◌, eqb, ltb, leb, List, [], ◌∷◌, length, get_or, drop, Some, None, Ok, Err, Decides, Result, sym, refl, ap, ◌∙◌, subst, mul-zero, mul-suc, arith}
+use Rattle.std.proofs.Common.{◌≡◌, ℕ, zero, suc, ◌+◌, ◌*◌, ◌<◌, ◌≤◌, Bool, true, cond, ◌&&◌, List, length, get_or, drop, None, Ok, Err, Decides, Result, sym, refl, ap, ◌∙◌, subst, mul-zero, mul-suc, arith}
 use Rattle.std.proofs.lemmas.List.{at_drop_more, at_drop_all}
 use Rattle.std.proofs.lemmas.Bool.{ltb-true, lt-ltb, leb-true, le-leb, eqb-true, eq-eqb, not-false}
-use Rattle.std.proofs.lemmas.Bool.Decides.{not_from_Decides}
 use Rattle.std.proofs.ByRecursion.{Decides-by_and}
 use Rattle.std.specs.List.{AllByRecursion as All}
 use Rattle.reader.proofs.Orders.{follows}
 use Rattle.reader.specs.Entries.{Entry}
 use Rattle.reader.specs.Files.{kinds}
-use Rattle.reader.specs.Order.{has}
 use Rattle.reader.specs.Stages.{next_stage, Follows}
 use Rattle.reader.specs.declared.kind.Kind.TheVariants as kind
 use Rattle.reader.specs.declared.stage.Stage.{Stage}
 use Rattle.reader.specs.declared.stage.Stage.TheVariants.{Start, Sheet, Edges, Sealed, Book, Nodes, Ended}
 use Rattle.sheet.specs.Automata.{Automaton, location}
-use Rattle.sheet.specs.Described.{described}
 use Rattle.sheet.specs.Ready.{compares, hold_at_zero, readiness}
 use Rattle.sheet.specs.Runs.{Compares, Holds, origin}
 use Rattle.sheet.specs.Taken.{Contents, Took}

@@ -1,5 +1,5 @@
 -- A draft that has taken some records, and one more.
-use Rattle.std.proofs.Common.{◌≡◌, ℕ, ◌+◌, ◌<◌, Bool, true, false, cond, not, ◌&&◌, ◌||◌, eqb, List, [], ◌∷◌, ◌++◌, map, length, replicate, is_some, is_ok, Some, None, Ok, Err, filter, Option, Result, sym, refl, ap, ◌∙◌, subst, inl, inr, append-nil, arith}
+use Rattle.std.proofs.Common.{◌≡◌, ℕ, Bool, true, false, cond, ◌&&◌, ◌||◌, eqb, List, [], ◌∷◌, ◌++◌, map, length, is_some, is_ok, Some, None, Ok, Err, Option, Result, sym, refl, ap, ◌∙◌, subst, inl, inr, append-nil, arith}
 use mathlib.Core.Logic.{∥∥₁_map}
 use Rattle.std.proofs.lemmas.List.{map_push}
 use Rattle.std.proofs.lemmas.Bool.{and_from, and_parts, eq-eqb, ne_eqb, true≢false, false≢true, not-true}
@@ -20,12 +20,11 @@ use Rattle.sheet.specs.Drafts.{Takes}
 use Rattle.sheet.specs.Fields.{is, field, atom_at}
 use Rattle.sheet.specs.Judged.{drafted, fits, room, refusal_by, refusal}
 use Rattle.sheet.specs.Parts.{refusal_in, part_by, accepted, limited, with_location, guarded, added, Adds}
-use Rattle.sheet.specs.Sheets.{plain, blank_automaton}
 use Rattle.sheet.specs.Taken.{Contents, blank_contents, Took}
 use Rattle.sheet.specs.declared.fault.SheetFault.{SheetFault}
 use Rattle.sheet.specs.declared.part.Part.{Part}
 use Rattle.sheet.specs.declared.part.Part.TheVariants as part
-use Rattle.sheet.proofs.Describing.{or_true, or_false, any_push, count_push, head_of_push, location_push, relocated, replicated, edges_push, edges_guarded, length_edges, no_head}
+use Rattle.sheet.proofs.Describing.{or_true, or_false, count_push, head_of_push, location_push, relocated, replicated, edges_push, edges_guarded, length_edges, no_head}
 
 -- only a head may come first
 

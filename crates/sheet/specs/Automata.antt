@@ -1,5 +1,5 @@
 -- Timed automata.
-use Rattle.std.specs.Prelude.{ℕ, Bool, false, List, [], length, slice_index_or}
+use Rattle.std.specs.Prelude.{ℕ, Bool, false, List, [], slice_index_or}
 use Rattle.sheet.specs.declared.atom.Atom.{Atom}
 
 pub record Location : Type 0 where

@@ -1,5 +1,5 @@
 -- The automaton that a list of records describes.
-use Rattle.std.specs.Prelude.{ℕ, Bool, true, false, cond, ◌&&◌, ◌||◌, List, [], ◌∷◌, map, length, Some, None, filter, Option, ◌==◌}
+use Rattle.std.specs.Prelude.{ℕ, Bool, false, cond, ◌&&◌, ◌||◌, List, [], ◌∷◌, map, length, Some, None, filter, Option, ◌==◌}
 use Rattle.std.specs.List.{range_with_len}
 use Rattle.reader.specs.Entries.{Entry}
 use Rattle.reader.specs.declared.kind.Kind.{Kind}

@@ -1,11 +1,11 @@
 -- What a record adds to a draft.
-use Rattle.std.specs.Prelude.{◌≡◌, ℕ, ◌+◌, ◌<◌, true, false, ◌&&◌, List, [], ◌∷◌, ◌++◌, length, replicate, is_some, Some, None, Ok, Err, Option, Result, slice_index_or, slice_set}
+use Rattle.std.specs.Prelude.{◌≡◌, ℕ, ◌+◌, ◌<◌, true, ◌&&◌, List, [], ◌∷◌, ◌++◌, length, replicate, is_some, Some, None, Ok, Err, Option, Result, slice_index_or, slice_set}
 use Rattle.reader.specs.Entries.{Entry}
 use Rattle.reader.specs.Stages.{next_stage}
 use Rattle.reader.specs.declared.kind.Kind.{Kind}
 use Rattle.reader.specs.declared.kind.Kind.TheVariants as kind
 use Rattle.reader.specs.declared.stage.Stage.TheVariants as stage
-use Rattle.sheet.specs.Automata.{Location, Edge, Automaton}
+use Rattle.sheet.specs.Automata.{Location, Edge}
 use Rattle.sheet.specs.Fields.{field, atom_at, clocks_named}
 use Rattle.sheet.specs.Judged.{drafted, fits, room, refusal_by}
 use Rattle.sheet.specs.Sheets.{plain}

@@ -1,5 +1,5 @@
 -- The automaton of a sheet.
-use Rattle.std.specs.Prelude.{false, List, [], map, vec_items}
+use Rattle.std.specs.Prelude.{false, [], map, vec_items}
 use Rattle.sheet.specs.Automata.{Location, Edge, Automaton}
 use Rattle.sheet.specs.declared.edge.Edge as code_edge
 use Rattle.sheet.specs.declared.sheet.Location as code_location

@@ -1,4 +1,6 @@
 // The sheet: a timed automaton drafted from records and sealed.
+#![tactic(auto)]
+
 mod atom;
 mod builder;
 mod draft;

@@ -1,5 +1,5 @@
 -- What every zone kind keeps: its calls against the meaning of its zones, at every k ≥ 1.
-use Rattle.std.specs.Prelude.{◌≡◌, ℕ, ◌<◌, ◌≤◌, Bool, true, false, cond, not, ◌&&◌, ◌||◌, ℤ, pos, negsuc, Ok, Err, ◌==◌, ◌≢◌, nat_le, nat_lt}
+use Rattle.std.specs.Prelude.{◌≡◌, ℕ, ◌<◌, Bool, true, false, not, ◌&&◌, ℤ, pos, negsuc, Ok, Err, ◌==◌, ◌≢◌, nat_le, nat_lt}
 use Rattle.zone.specs.declared.constraint.Constraint.{Constraint}
 use Rattle.zone.specs.declared.fault.ZoneFault.{ZoneFault}
 use Rattle.zone.specs.declared.fault.ZoneFault.TheVariants.{OutOfRange, NoDifferences, TooWide}

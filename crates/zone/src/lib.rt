@@ -1,4 +1,6 @@
 // Clock zones: the trait with its meaning and laws, difference-bound matrices, and boxes.
+#![tactic(auto)]
+
 mod bound;
 mod boxed;
 mod constraint;

@@ -9,5 +9,5 @@ returns-in-Some c =
     let found = c.in-Some.ensures.item.3 in
     changed_at location_of accepted _ c.args.number c.from.result plain c.from.ensures c.in-Some.location.now _ found.0 (found.1 c.in-Some.location.now) refl
 
-pub returns-in-default : goal.returns-in-default
-returns-in-default c = past_end location_of accepted _ c.args.number c.from.result plain c.from.ensures c.in-default.ensures.item.3
+pub returns-in_default : goal.returns-in_default
+returns-in_default c = past_end location_of accepted _ c.args.number c.from.result plain c.from.ensures c.in_default.ensures.item.3

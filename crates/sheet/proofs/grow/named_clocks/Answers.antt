@@ -4,13 +4,13 @@ use Rattle.std.specs.List.{range_with_len}
 use Rattle.sheet.specs.Fields.{names, clocks_named}
 use Rattle.sheet.proofs.Growing.{named_step}
 use Rattle.sheet.proofs.grow.named_clocks.Goals as goal
-use Rattle.sheet.proofs.grow.named_clocks.Goals.{then-byte-bit-eq1+in-ok-push, else-byte-bit-eq1}
+use Rattle.sheet.proofs.grow.named_clocks.Goals.{then-byte-bit-eq1+in_ok-push, else-byte-bit-eq1}
 
 pub loop-bit-preserved : goal.loop-bit-preserved
 loop-bit-preserved c = elim c.if-byte-bit-eq1.branch [
-  | then-byte-bit-eq1+in-ok-push w ↦
+  | then-byte-bit-eq1+in_ok-push w ↦
       named_step c.args.byte c.loop-bit.bit true (vec_items c.loop-bit.clocks) _ (eq-eqb _ _ w.if-byte-bit-eq1.true) c.loop-bit.invariant
-      (ap vec_items w.clocks-is ∙ w.in-ok-push.ensures.items)
+      (ap vec_items w.clocks-is ∙ w.in_ok-push.ensures.items)
   | else-byte-bit-eq1 w ↦
       named_step c.args.byte c.loop-bit.bit false (vec_items c.loop-bit.clocks) _ (ne_eqb _ _ w.if-byte-bit-eq1.false) c.loop-bit.invariant
       (ap vec_items w.clocks-is ∙ sym (append-nil (vec_items c.loop-bit.clocks)))

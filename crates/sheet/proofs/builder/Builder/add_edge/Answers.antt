@@ -1,8 +1,7 @@
-use Rattle.std.proofs.Common.{◌≡◌, List, [], ◌∷◌, ◌++◌, map, vec_items, sym, ap, ◌∙◌}
+use Rattle.std.proofs.Common.{List, [], ◌∷◌, ◌++◌, map, vec_items, ap, ◌∙◌}
 use Rattle.std.proofs.lemmas.List.{map_push}
 use Rattle.reader.specs.declared.stage.Stage.TheVariants.{Edges}
 use Rattle.sheet.specs.Automata.{Edge}
-use Rattle.sheet.specs.Taken.{Contents}
 use Rattle.sheet.specs.Sheets.{location_of, edge_of}
 use Rattle.sheet.proofs.builder.Builder.add_edge.Goals as goal
 
@@ -16,6 +15,6 @@ returns c =
       limit_atoms = d.limit_atoms;
       guard_atoms = d.guard_atoms;
     })
-    (ap (map edge_of) c.in-ok-push.ensures.items
+    (ap (map edge_of) c.in_ok-push.ensures.items
     ∙ map_push edge_of (vec_items d.sheet.edges) _
-    ∙ (λ i. before ++ record { source = c.args.source; target = c.args.target; resets = c.in-ok-resets.ensures i; guard = c.new-guard.ensures.items i } ∷ []))
+    ∙ (λ i. before ++ record { source = c.args.source; target = c.args.target; resets = c.in_ok-resets.ensures i; guard = c.new-guard.ensures.items i } ∷ []))

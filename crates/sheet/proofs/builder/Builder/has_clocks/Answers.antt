@@ -1,4 +1,4 @@
-use Rattle.std.proofs.Common.{◌≡◌, ◌/◌, ◌^◌, ◌<◌, eqb, ltb, sym, ap, ◌∙◌, arith}
+use Rattle.std.proofs.Common.{◌^◌, eqb, ltb, sym, ap, ◌∙◌, arith}
 use Rattle.sheet.proofs.Bits.{shifted_out, all_shifted}
 use Rattle.sheet.proofs.builder.Builder.has_clocks.Goals as goal
 

@@ -1,5 +1,4 @@
-use Rattle.std.proofs.Common.{map, length, refl, ap, ◌∙◌}
-use Rattle.sheet.specs.Automata.{Automaton, Location, Edge}
+use Rattle.std.proofs.Common.{map, length, ap}
 use Rattle.sheet.specs.Sheets.{location_of, edge_of}
 use Rattle.sheet.proofs.Sheets.{no_runs}
 use Rattle.sheet.proofs.sheet.Sheet.blank.Goals as goal

@@ -5,11 +5,11 @@ use Rattle.zone.proofs.boxed.ranges.are_within.Goals as goal
 pub loop-k-init : goal.loop-k-init
 loop-k-init c = every_none _
 
-pub returns-then-not-is-within : goal.returns-then-not-is-within
-returns-then-not-is-within c = sym (every_fails _ 6 c.loop-k.k (omega arith) (sym c.if-not-is-within.ensures))
+pub returns-then-not-is_within : goal.returns-then-not-is_within
+returns-then-not-is_within c = sym (every_fails _ 6 c.loop-k.k (omega arith) (sym c.if-not-is_within.ensures))
 
 pub loop-k-preserved : goal.loop-k-preserved
-loop-k-preserved c = every_more _ c.loop-k.k c.loop-k.invariant (sym c.if-not-is-within.ensures)
+loop-k-preserved c = every_more _ c.loop-k.k c.loop-k.invariant (sym c.if-not-is_within.ensures)
 
 pub returns : goal.returns
 returns c = sym (every_all _ 6 c.loop-k.k c.loop-k.invariant (omega arith))

@@ -35,22 +35,22 @@ tightened-bounds-requires c =
     let six : c.args.self.now.row.clocks ≤ 6 = countable_high _ (proper_countable c.args.self.now.row c.args.self.now.fitting) in
     record { within = omega arith; small = (proper_small c.args.self.now.row c.args.self.now.fitting c.if-self.false, c.requires.small) }
 
-pub returns-then-not-are-narrow : goal.returns-then-not-are-narrow
+pub returns-then-not-are_narrow : goal.returns-then-not-are_narrow
 unfolding entry
-returns-then-not-are-narrow c =
+returns-then-not-are_narrow c =
     let s : implies nil (plus c.args.bound (entry c.args.self.now.row.bounds c.args.j c.args.i)) ≡ true = ap (implies nil) (sym c.plus.ensures) ∙ sym c.if-not-implies.ensures in
-    ap granted (sym (tightened_wide c.args.self.now.row c.args.i c.args.j c.args.bound c.if-self.false s (ap all_narrow (sym c.tightened-bounds.ensures) ∙ sym c.if-not-are-narrow.ensures)))
+    ap granted (sym (tightened_wide c.args.self.now.row c.args.i c.args.j c.args.bound c.if-self.false s (ap all_narrow (sym c.tightened-bounds.ensures) ∙ sym c.if-not-are_narrow.ensures)))
 
 pub of-requires-2 : goal.of-requires-2
 unfolding entry
 of-requires-2 c =
     let s : implies nil (plus c.args.bound (entry c.args.self.now.row.bounds c.args.j c.args.i)) ≡ true = ap (implies nil) (sym c.plus.ensures) ∙ sym c.if-not-implies.ensures in
-    let a : all_narrow (listed (tightened_grid (entry c.args.self.now.row.bounds) c.args.i c.args.j c.args.bound)) ≡ true = ap all_narrow (sym c.tightened-bounds.ensures) ∙ sym c.if-not-are-narrow.ensures in
+    let a : all_narrow (listed (tightened_grid (entry c.args.self.now.row.bounds) c.args.i c.args.j c.args.bound)) ≡ true = ap all_narrow (sym c.tightened-bounds.ensures) ∙ sym c.if-not-are_narrow.ensures in
     ap proper (same_row _ c.tightened-bounds.result _ c.tightened-bounds.ensures) ∙ proper_with c.args.self.now.row c.args.self.now.fitting c.args.i c.args.j c.args.bound c.requires.within.0 c.requires.within.1 c.if-self.false s a
 
 pub returns : goal.returns
 unfolding entry
 returns c =
     let s : implies nil (plus c.args.bound (entry c.args.self.now.row.bounds c.args.j c.args.i)) ≡ true = ap (implies nil) (sym c.plus.ensures) ∙ sym c.if-not-implies.ensures in
-    let a : all_narrow (listed (tightened_grid (entry c.args.self.now.row.bounds) c.args.i c.args.j c.args.bound)) ≡ true = ap all_narrow (sym c.tightened-bounds.ensures) ∙ sym c.if-not-are-narrow.ensures in
+    let a : all_narrow (listed (tightened_grid (entry c.args.self.now.row.bounds) c.args.i c.args.j c.args.bound)) ≡ true = ap all_narrow (sym c.tightened-bounds.ensures) ∙ sym c.if-not-are_narrow.ensures in
     ap Ok (c.of-2.ensures ∙ ap of_row (same_row _ c.tightened-bounds.result _ c.tightened-bounds.ensures)) ∙ ap granted (sym (tightened_kept c.args.self.now.row c.args.i c.args.j c.args.bound c.if-self.false s a))

@@ -5,11 +5,11 @@ use Rattle.zone.proofs.difference.bounds.all_fit.Goals as goal
 pub loop-k-init : goal.loop-k-init
 loop-k-init c = every_none _
 
-pub returns-then-not-fits-at : goal.returns-then-not-fits-at
-returns-then-not-fits-at c = sym (every_fails _ 49 c.loop-k.k (omega arith) (sym c.if-not-fits-at.ensures))
+pub returns-then-not-fits_at : goal.returns-then-not-fits_at
+returns-then-not-fits_at c = sym (every_fails _ 49 c.loop-k.k (omega arith) (sym c.if-not-fits_at.ensures))
 
 pub loop-k-preserved : goal.loop-k-preserved
-loop-k-preserved c = every_more _ c.loop-k.k c.loop-k.invariant (sym c.if-not-fits-at.ensures)
+loop-k-preserved c = every_more _ c.loop-k.k c.loop-k.invariant (sym c.if-not-fits_at.ensures)
 
 pub returns : goal.returns
 returns c = sym (every_all _ 49 c.loop-k.k c.loop-k.invariant (omega arith))

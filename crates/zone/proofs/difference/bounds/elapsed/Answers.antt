@@ -4,7 +4,7 @@ use Rattle.zone.specs.Filled.{filled_more}
 use Rattle.zone.proofs.difference.bounds.elapsed.Goals as goal
 
 pub loop-k-preserved : goal.loop-k-preserved
-loop-k-preserved c = filled_more c.elapsed-at.result c.loop-k.invariant (omega arith) c.elapsed-at.ensures
+loop-k-preserved c = filled_more c.elapsed_at.result c.loop-k.invariant (omega arith) c.elapsed_at.ensures
 
 pub returns : goal.returns
 returns c = written_all _ _ c.loop-k.k c.loop-k.invariant (omega arith)

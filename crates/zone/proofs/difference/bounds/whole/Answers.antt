@@ -4,7 +4,7 @@ use Rattle.zone.specs.Filled.{filled_more}
 use Rattle.zone.proofs.difference.bounds.whole.Goals as goal
 
 pub loop-k-preserved : goal.loop-k-preserved
-loop-k-preserved c = filled_more c.whole-at.result c.loop-k.invariant (omega arith) c.whole-at.ensures
+loop-k-preserved c = filled_more c.whole_at.result c.loop-k.invariant (omega arith) c.whole_at.ensures
 
 pub returns : goal.returns
 returns c = written_all _ _ c.loop-k.k c.loop-k.invariant (omega arith)

@@ -4,4 +4,4 @@ use Rattle.zone.proofs.boxed.kind.BoxZoneZone.is_empty.Goals as goal
 
 pub returns : goal.returns
 returns c =
-    record { value = c.is-empty.ensures; exact = λ e. some_held c.args.self.now.row c.args.self.now.fitting (sym c.is-empty.ensures ∙ e) }
+    record { value = c.is_empty.ensures; exact = λ e. some_held c.args.self.now.row c.args.self.now.fitting (sym c.is_empty.ensures ∙ e) }

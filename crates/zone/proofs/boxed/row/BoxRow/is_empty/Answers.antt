@@ -3,9 +3,9 @@ use Rattle.zone.specs.BoxRows.{empty_row}
 use Rattle.zone.specs.BoxRowsLemmas.{proper_lower, proper_upper}
 use Rattle.zone.proofs.boxed.row.BoxRow.is_empty.Goals as goal
 
-pub are-inhabited-requires : goal.are-inhabited-requires
-are-inhabited-requires c = (proper_lower c.args.self.now c.requires, proper_upper c.args.self.now c.requires)
+pub are_inhabited-requires : goal.are_inhabited-requires
+are_inhabited-requires c = (proper_lower c.args.self.now c.requires, proper_upper c.args.self.now c.requires)
 
 pub returns : goal.returns
 unfolding empty_row
-returns c = ap not c.are-inhabited.ensures
+returns c = ap not c.are_inhabited.ensures

@@ -12,4 +12,4 @@ returns-then-self-lt1 c =
 pub returns : goal.returns
 returns c =
     let h : countable c.args.self.now.clocks ≡ true = grind (arith, nat_tests) in
-    c.all-fit.ensures.value ∙ sym (proper_by_fits c.args.self.now c.all-fit.ensures.long h)
+    c.all_fit.ensures.value ∙ sym (proper_by_fits c.args.self.now c.all_fit.ensures.long h)

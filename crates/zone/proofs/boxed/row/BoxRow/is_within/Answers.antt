@@ -9,16 +9,16 @@ returns-then-self-other c =
     let h : eqb c.args.self.now.clocks c.args.other.now.clocks ≡ false = grind (arith, nat_tests) in
     simp h
 
-pub returns-then-is-empty : goal.returns-then-is-empty
+pub returns-then-is_empty : goal.returns-then-is_empty
 unfolding within_rows
-returns-then-is-empty c =
+returns-then-is_empty c =
     let h : eqb c.args.self.now.clocks c.args.other.now.clocks ≡ true = grind (arith, nat_tests) in
-    let e : empty_row c.args.self.now ≡ true = sym c.if-is-empty.ensures in
+    let e : empty_row c.args.self.now ≡ true = sym c.if-is_empty.ensures in
     simp (h, e)
 
 pub returns : goal.returns
 unfolding within_rows
 returns c =
     let h : eqb c.args.self.now.clocks c.args.other.now.clocks ≡ true = grind (arith, nat_tests) in
-    let e : empty_row c.args.self.now ≡ false = sym c.if-is-empty.ensures in
-    simp (h, e) c.are-within.ensures
+    let e : empty_row c.args.self.now ≡ false = sym c.if-is_empty.ensures in
+    simp (h, e) c.are_within.ensures

@@ -7,4 +7,4 @@ returns-then-self c = simp c.if-self.true
 
 pub returns : goal.returns
 unfolding zero_row
-returns c = simp c.if-self.false c.hold-zero.ensures
+returns c = simp c.if-self.false c.hold_zero.ensures

@@ -12,9 +12,9 @@ returns-then-self-lt1 c =
 pub returns-then-self : goal.returns-then-self
 returns-then-self c =
     let h : countable c.args.self.now.clocks ≡ true = grind (arith, nat_tests) in
-    c.is-blank.ensures.value ∙ sym (proper_by_blank c.args.self.now c.is-blank.ensures.long h c.if-self.true)
+    c.is_blank.ensures.value ∙ sym (proper_by_blank c.args.self.now c.is_blank.ensures.long h c.if-self.true)
 
 pub returns : goal.returns
 returns c =
     let h : countable c.args.self.now.clocks ≡ true = grind (arith, nat_tests) in
-    c.are-closed.ensures.value ∙ sym (proper_by_closed c.args.self.now c.are-closed.ensures.long h c.if-self.false)
+    c.are_closed.ensures.value ∙ sym (proper_by_closed c.args.self.now c.are_closed.ensures.long h c.if-self.false)
