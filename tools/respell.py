@@ -60,6 +60,11 @@ def joined(pairs):
     return "\n".join(code + comment for code, comment in pairs)
 
 
+def outside_strings(line, change):
+    parts = re.split(r'("(?:[^"\\]|\\.)*")', line)
+    return "".join(part if i % 2 else change(part) for i, part in enumerate(parts))
+
+
 def is_answer(path):
     return os.path.basename(path) in ("Answers.antt", "Invariants.antt", "Proof.antt", "Choices.antt")
 
@@ -96,10 +101,10 @@ def main():
             merged[respelled(name)].add(name)
             return respelled(name)
 
-        return TOKEN.sub(one, code)
+        return outside_strings(code, lambda part: TOKEN.sub(one, part))
 
     def turn_fields(code, keep):
-        return AFTER_DOT.sub(lambda m: respelled(m[1]) if m[1] in own and m[1] not in keep else m[1], code)
+        return outside_strings(code, lambda part: AFTER_DOT.sub(lambda m: respelled(m[1]) if m[1] in own and m[1] not in keep else m[1], part))
 
     def turn_quoted(comment):
         return re.sub(r"`[^`]*`", lambda m: turn(m[0], set(), own), comment)

@@ -18,7 +18,7 @@ described (Limit location clock relation constant) = codes " limit location=" ++
 described (Edge source target zeros) = codes " edge source=" ++ (decimal source ++ (codes " target=" ++ (decimal target ++ (codes " zeros=" ++ decimal zeros))))
 described (Guard clock relation constant) = codes " guard clock=" ++ (decimal clock ++ (codes " relation=" ++ (decimal relation ++ (codes " constant=" ++ decimal constant))))
 described SheetEnd = codes " sheet end"
-described (Book zone_kind question) = codes " book zone_kind=" ++ (decimal zone_kind ++ (codes " question=" ++ decimal question))
+described (Book zone_kind question) = codes " book zone-kind=" ++ (decimal zone_kind ++ (codes " question=" ++ decimal question))
 described (Node place location number) = codes " node place=" ++ (decimal place ++ (codes " location=" ++ (decimal location ++ (codes " number=" ++ decimal number))))
 described (Bound i j strict constant) = codes " bound i=" ++ (decimal i ++ (codes " j=" ++ (decimal j ++ (codes " strict=" ++ (decimal strict ++ (codes " constant=" ++ signed_decimal constant))))))
 described FileEnd = codes " file end"

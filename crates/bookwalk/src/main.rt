@@ -20,7 +20,7 @@ fn print_sheet(rt: &HostRuntime, sheet: &Sheet) -> io::Result<()> {
         let source = edge.source();
         let target = edge.target();
         let atoms = edge.guard().len();
-        println!(rt; "edge {i} source={source} target={target} guard_atoms={atoms}")?;
+        println!(rt; "edge {i} source={source} target={target} guard-atoms={atoms}")?;
     }
     Ok(())
 }

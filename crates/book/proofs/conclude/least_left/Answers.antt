@@ -3,7 +3,7 @@ use Rattle.sheet.specs.Sheets.{automaton_of}
 use Rattle.book.specs.Calls.{lesser, least_left}
 use Rattle.book.proofs.Least.{joined, least_more, least_same, least_all}
 use Rattle.book.proofs.conclude.least_left.Goals as goal
-use Rattle.book.proofs.conclude.least_left.Goals.{then-covers-start, else-covers-start}
+use Rattle.book.proofs.conclude.least_left.Goals.{then-covers_start, else-covers_start}
 
 pub loop-place-preserved : goal.loop-place-preserved
 loop-place-preserved g c =
@@ -12,14 +12,14 @@ loop-place-preserved g c =
     let a = automaton_of c.args.sheet.now in
     let i = c.loop-place.place-index in
     let rest = least_left calls asks a (drop (i + 1) c.args.places.now) in
-    elim c.if-covers-start.branch [
-      | then-covers-start w ↦
+    elim c.if-covers_start.branch [
+      | then-covers_start w ↦
           ap (λ o. joined o rest) (w.least-is ∙ ap Some (w.lesser.ensures ∙ ap (λ n. lesser n c.loop-place.least) w.left.ensures))
-          ∙ least_more calls asks a c.args.places.now i c.loop-place.least c.place-item.result c.loop-place-test.true c.place-item.is (sym c.covers-start.ensures ∙ w.if-covers-start.true)
+          ∙ least_more calls asks a c.args.places.now i c.loop-place.least c.place-item.result c.loop-place-test.true c.place-item.is (sym c.covers_start.ensures ∙ w.if-covers_start.true)
           ∙ c.loop-place.invariant
-      | else-covers-start w ↦
+      | else-covers_start w ↦
           ap (λ o. joined o rest) w.least-is
-          ∙ least_same calls asks a c.args.places.now i c.loop-place.least c.place-item.result c.loop-place-test.true c.place-item.is (sym c.covers-start.ensures ∙ w.if-covers-start.false)
+          ∙ least_same calls asks a c.args.places.now i c.loop-place.least c.place-item.result c.loop-place-test.true c.place-item.is (sym c.covers_start.ensures ∙ w.if-covers_start.false)
           ∙ c.loop-place.invariant
     ]
 

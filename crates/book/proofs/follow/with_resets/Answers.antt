@@ -4,11 +4,11 @@ use Rattle.book.specs.Following.{all_reset}
 use Rattle.book.proofs.Folding.{folded_more, folded_stop, folded_all}
 use Rattle.book.proofs.follow.with_resets.Goals as goal
 
-pub returns-in-err-after : goal.returns-in-err-after
-returns-in-err-after g c =
+pub returns-in_err-after : goal.returns-in_err-after
+returns-in_err-after g c =
     let calls = g.Z.Zone.calls in
-    let p = err_from_is_err_and c.from-residual.result c.from-residual.ensures.1 in
-    let stop = sym c.reset.ensures ∙ c.in-err-after.was in
+    let p = err_from_is_err_and c.from_residual.result c.from_residual.ensures.1 in
+    let stop = sym c.reset.ensures ∙ c.in_err-after.was in
     p.1 ∙ ap Err p.2
     ∙ sym (folded_stop calls.reset (all_reset calls) (λ z. refl) (λ z x xs. refl) c.args.clocks.now c.loop-clock.clock-index _ c.loop-clock.after _ c.loop-clock-test.true stop)
     ∙ c.loop-clock.invariant
@@ -16,7 +16,7 @@ returns-in-err-after g c =
 pub loop-clock-preserved : goal.loop-clock-preserved
 loop-clock-preserved g c =
     let calls = g.Z.Zone.calls in
-    let ok = sym c.reset.ensures ∙ c.in-ok-after.was in
+    let ok = sym c.reset.ensures ∙ c.in_ok-after.was in
     folded_more calls.reset (all_reset calls) (λ z. refl) (λ z x xs. refl) c.args.clocks.now c.loop-clock.clock-index _ c.loop-clock.after _ c.loop-clock-test.true ok
     ∙ c.loop-clock.invariant
 

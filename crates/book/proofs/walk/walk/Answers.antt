@@ -6,7 +6,7 @@ use Rattle.book.specs.Marks.{none}
 use Rattle.book.proofs.Walking.{walk_next, walk_over, length_with_lean, leant, unleant}
 use Rattle.book.proofs.Walks.{owed_within}
 use Rattle.book.proofs.walk.walk.Goals as goal
-use Rattle.book.proofs.walk.walk.Goals.{in-Some, in-default, then-i-edges, else-i-edges+in-Err}
+use Rattle.book.proofs.walk.walk.Goals.{in-Some, in_default, then-i-edges, else-i-edges+in-Err}
 
 pub edges-preserved : goal.edges-preserved
 edges-preserved g c =
@@ -18,7 +18,7 @@ edges-preserved g c =
     let grown : c.match-place.leans ≡ with_lean c.edges.leans c.in-Ok.place =
     elim c.match-place.branch [
       | in-Some w ↦ leant c.edges.leans c.match-place.leans c.in-Ok.place _ w.in-Some.is w.leans-is
-      | in-default w ↦ unleant c.edges.leans c.match-place.leans c.in-Ok.place w.in-default.is w.leans-is
+      | in_default w ↦ unleant c.edges.leans c.match-place.leans c.in-Ok.place w.in_default.is w.leans-is
     ] in (
       ap length grown ∙ length_with_lean c.edges.leans c.in-Ok.place ∙ c.edges.invariant.0,
       omega (arith, c.if-i-edges.false),

@@ -11,20 +11,20 @@ returns-then-old g c =
     let a = automaton_of c.args.self.now.sheet in
     let here = c.in-Some.ensures in
     let fit = fits calls asks a c.args.places.now c.args.place c.in-Some.old here.0 here.1 c.args.location c.args.zone.now
-    (lt-ltb _ _ (omega (arith, c.from.ensures, c.location-count.ensures, c.if-from-location-count.false)))
+    (lt-ltb _ _ (omega (arith, c.from.ensures, c.location_count.ensures, c.if-from-location_count.false)))
     (eq-eqb _ _ (sym c.clocks.ensures ∙ c.if-clocks.false ∙ c.clocks-2.ensures)) in
     sym (put_taken calls asks a c.args.places.now c.args.place c.in-Some.old here.0 here.1 c.args.location c.args.number c.args.zone.now fit c.if-old.true)
 
-pub returns-then-is-empty : goal.returns-then-is-empty
-returns-then-is-empty g c =
+pub returns-then-is_empty : goal.returns-then-is_empty
+returns-then-is_empty g c =
     let calls = g.Z.Zone.calls in
     let asks = g.Q.Question.asks c.args.self.now.question in
     let a = automaton_of c.args.self.now.sheet in
     let here = c.in-Some.ensures in
     let fit = fits calls asks a c.args.places.now c.args.place c.in-Some.old here.0 here.1 c.args.location c.args.zone.now
-    (lt-ltb _ _ (omega (arith, c.from.ensures, c.location-count.ensures, c.if-from-location-count.false)))
+    (lt-ltb _ _ (omega (arith, c.from.ensures, c.location_count.ensures, c.if-from-location_count.false)))
     (eq-eqb _ _ (sym c.clocks.ensures ∙ c.if-clocks.false ∙ c.clocks-2.ensures)) in
-    sym (put_empty calls asks a c.args.places.now c.args.place c.in-Some.old here.0 here.1 c.args.location c.args.number c.args.zone.now fit c.if-old.false (sym c.is-empty.ensures ∙ c.if-is-empty.true))
+    sym (put_empty calls asks a c.args.places.now c.args.place c.in-Some.old here.0 here.1 c.args.location c.args.number c.args.zone.now fit c.if-old.false (sym c.is_empty.ensures ∙ c.if-is_empty.true))
 
 pub returns : goal.returns
 returns g c =
@@ -33,6 +33,6 @@ returns g c =
     let a = automaton_of c.args.self.now.sheet in
     let here = c.in-Some.ensures in
     let fit = fits calls asks a c.args.places.now c.args.place c.in-Some.old here.0 here.1 c.args.location c.args.zone.now
-    (lt-ltb _ _ (omega (arith, c.from.ensures, c.location-count.ensures, c.if-from-location-count.false)))
+    (lt-ltb _ _ (omega (arith, c.from.ensures, c.location_count.ensures, c.if-from-location_count.false)))
     (eq-eqb _ _ (sym c.clocks.ensures ∙ c.if-clocks.false ∙ c.clocks-2.ensures)) in
-    sym (put_grants calls asks a c.args.places.now c.args.place c.in-Some.old here.0 here.1 c.args.location c.args.number c.args.zone.now fit c.if-old.false (sym c.is-empty.ensures ∙ c.if-is-empty.false))
+    sym (put_grants calls asks a c.args.places.now c.args.place c.in-Some.old here.0 here.1 c.args.location c.args.number c.args.zone.now fit c.if-old.false (sym c.is_empty.ensures ∙ c.if-is_empty.false))

@@ -4,9 +4,9 @@ use Rattle.book.specs.Calls.{examined}
 use Rattle.book.proofs.Judging.{within, examine_granted}
 use Rattle.book.proofs.book.Book.mark.Goals as goal
 
-pub write-at-requires : goal.write-at-requires
-write-at-requires g c =
+pub write_at-requires : goal.write_at-requires
+write_at-requires g c =
     let calls = g.Z.Zone.calls in
     let asks = g.Q.Question.asks c.args.self.now.question in
     let a = automaton_of c.args.self.now.sheet in
-    within calls asks a c.args.places.now c.args.place (examine_granted calls asks a c.args.places.now c.args.place _ c.in-ok-node.ensures)
+    within calls asks a c.args.places.now c.args.place (examine_granted calls asks a c.args.places.now c.args.place _ c.in_ok-node.ensures)

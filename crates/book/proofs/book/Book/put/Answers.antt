@@ -6,18 +6,18 @@ use Rattle.book.specs.Marks.{fresh}
 use Rattle.book.proofs.Judging.{refused_keeps, put_granted, within}
 use Rattle.book.proofs.book.Book.put.Goals as goal
 
-pub returns-in-err-judge-put : goal.returns-in-err-judge-put
-returns-in-err-judge-put g c =
-    let p = err_from_is_err_and c.from-residual.result c.from-residual.ensures.1 in
-    let says = sym c.judge-put.ensures ∙ c.in-err-judge-put.was in
+pub returns-in_err-judge_put : goal.returns-in_err-judge_put
+returns-in_err-judge_put g c =
+    let p = err_from_is_err_and c.from_residual.result c.from_residual.ensures.1 in
+    let says = sym c.judge_put.ensures ∙ c.in_err-judge_put.was in
     record {
       answer = p.1 ∙ ap Err p.2 ∙ sym says;
       places = sym (refused_keeps (putting g.Z.Zone.calls (g.Q.Question.asks c.args.self.now.question) (automaton_of c.args.self.now.sheet) c.args.places.now c.args.place c.args.location c.args.number c.args.zone.now) _ c.args.places.now says);
     }
 
-pub write-at-requires : goal.write-at-requires
-write-at-requires g c =
+pub write_at-requires : goal.write_at-requires
+write_at-requires g c =
     let calls = g.Z.Zone.calls in
     let asks = g.Q.Question.asks c.args.self.now.question in
     let a = automaton_of c.args.self.now.sheet in
-    within calls asks a c.args.places.now c.args.place (put_granted calls asks a c.args.places.now c.args.place c.args.location c.args.number c.args.zone.now (sym c.judge-put.ensures ∙ c.in-ok-judge-put.was)).0
+    within calls asks a c.args.places.now c.args.place (put_granted calls asks a c.args.places.now c.args.place c.args.location c.args.number c.args.zone.now (sym c.judge_put.ensures ∙ c.in_ok-judge_put.was)).0
