@@ -1,11 +1,11 @@
 -- What examine and conclude answer, in terms of the nodes and their edges.
-use Rattle.std.proofs.Common.{◌≡◌, ℕ, zero, suc, ◌+◌, ◌<◌, ◌≤◌, min, Bool, true, false, cond, not, ◌&&◌, ◌⊎◌, List, [], ◌∷◌, length, get_or, take, set, is_ok, IfOk, IfErr, Some, None, Ok, Err, Decides, Option, Result, sym, refl, ap, ◌∙◌, subst, inl, inr, ⊎_elim, arith}
+use Rattle.std.proofs.Common.{◌≡◌, ℕ, zero, suc, ◌≤◌, min, Bool, true, false, cond, not, List, [], ◌∷◌, get_or, take, is_ok, IfOk, IfErr, Some, None, Ok, Err, Decides, Option, Result, sym, refl, ap, ◌∙◌, subst, ⊎_elim, arith}
 use Rattle.std.proofs.lemmas.Bool.{both_ways, and_parts, and_from, not_from_false}
-use Rattle.sheet.specs.Automata.{Automaton, Edge, location}
+use Rattle.sheet.specs.Automata.{Automaton, Edge}
 use Rattle.zone.specs.Calls as zones
 use Rattle.book.specs.Calls.{told, vacant, place, at_hand, stopped, marking, examining, unmarked, covers_start, lesser, least_left, verdict, concluding}
 use Rattle.book.specs.Covering.{walked}
-use Rattle.book.specs.Grants.{Covered, Answered, Grants, FirstUncovered, NamesFirst, Concludes, Least}
+use Rattle.book.specs.Grants.{Covered, Grants, FirstUncovered, NamesFirst, Concludes, Least}
 use Rattle.book.specs.Marks.{none, lowest}
 use Rattle.book.specs.Questions.{Asks}
 use Rattle.book.specs.Standing.{accepting_at}

@@ -1,13 +1,13 @@
 -- Examine and conclude grant exactly when they should.
-use Rattle.std.proofs.Common.{◌≡◌, ℕ, zero, suc, ◌+◌, ◌<◌, ◌≤◌, min, Bool, true, false, cond, not, ◌&&◌, eqb, ◌⊎◌, List, [], ◌∷◌, length, get_or, take, set, Some, None, Ok, Err, Option, Result, sym, refl, ap, ◌∙◌, subst, inl, inr, ⊎_elim, arith}
-use Rattle.std.proofs.lemmas.Bool.{eqb-true, eq-eqb, cond-true, cond-false, both_ways}
-use Rattle.sheet.specs.Automata.{Automaton, Edge, location}
+use Rattle.std.proofs.Common.{◌≡◌, ℕ, zero, suc, ◌+◌, ◌<◌, Bool, true, false, cond, eqb, List, [], ◌∷◌, length, get_or, take, Some, None, Ok, Err, Option, Result, sym, refl, ◌∙◌, inl, inr, arith}
+use Rattle.std.proofs.lemmas.Bool.{eqb-true, eq-eqb, both_ways}
+use Rattle.sheet.specs.Automata.{Automaton, Edge}
 use Rattle.zone.specs.Calls as zones
 use Rattle.zone.specs.declared.fault.ZoneFault.{ZoneFault}
-use Rattle.book.specs.Calls.{vacant, place}
+use Rattle.book.specs.Calls.{vacant}
 use Rattle.book.specs.Covering.{with_lean, on_with, covers, found, leaned, owed, walked}
 use Rattle.book.specs.Following.{followed}
-use Rattle.book.specs.Grants.{Covered, Answered, Grants, FirstUncovered}
+use Rattle.book.specs.Grants.{Covered, Answered}
 use Rattle.book.specs.Marks.{lowest}
 use Rattle.book.specs.Questions.{Asks}
 use Rattle.book.specs.Standing.{accepting_at}

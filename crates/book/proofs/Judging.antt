@@ -1,7 +1,7 @@
 -- What each call answers, from the tests that it makes.
-use Rattle.std.proofs.Common.{◌≡◌, ℕ, ◌<◌, ◌≤◌, Bool, true, false, cond, not, ◌&&◌, eqb, ltb, List, ◌++◌, map, length, get_or, take, drop, set, Ok, Err, Option, Result, sym, refl, ap, ◌∙◌, arith}
+use Rattle.std.proofs.Common.{◌≡◌, ℕ, ◌<◌, Bool, true, false, cond, not, eqb, ltb, List, ◌++◌, map, length, get_or, take, drop, set, Ok, Err, Option, Result, sym, refl, ap, ◌∙◌, arith}
 use Rattle.std.proofs.lemmas.List.{length-take, length-map, set-append_left}
-use Rattle.std.proofs.lemmas.Bool.{ltb-true, lt-ltb, and_parts, and_from, cond-true, cond-false}
+use Rattle.std.proofs.lemmas.Bool.{ltb-true, lt-ltb, and_parts, and_from}
 use Rattle.sheet.specs.Automata.{Automaton, location}
 use Rattle.zone.specs.Calls as zones
 use Rattle.book.specs.Calls.{told, kept, stopped, examined, vacant, place, at_hand, fitting, putting, struck, striking, marking, examining, unmarked, least_left, verdict, concluding}

@@ -1,5 +1,5 @@
 -- What following an edge leads to holds every valuation that a run can reach by it.
-use Rattle.std.proofs.Common.{◌≡◌, ℕ, zero, suc, ◌+◌, ◌*◌, ◌<◌, ◌≤◌, Bool, true, false, cond, not, ◌&&◌, eqb, leb, List, [], ◌∷◌, ℤ, pos, negsuc, neg_ℤ, Ok, Err, Result, sym, refl, ap, ◌∙◌, subst, mul-zero, arith}
+use Rattle.std.proofs.Common.{◌≡◌, ℕ, zero, suc, ◌*◌, ◌<◌, ◌≤◌, Bool, true, false, cond, eqb, List, [], ◌∷◌, Ok, Err, Result, sym, refl, ap, ◌∙◌, subst, mul-zero, arith}
 use Rattle.std.proofs.lemmas.Bool.{eqb-true, eq-eqb}
 use Rattle.std.specs.List.{AllByRecursion as All}
 use Rattle.sheet.specs.Automata.{Automaton, Edge, location}
@@ -9,11 +9,9 @@ use Rattle.sheet.specs.declared.atom.Atom.{Atom}
 use Rattle.sheet.specs.declared.atom.Relation.{Relation}
 use Rattle.sheet.specs.declared.atom.Relation.TheVariants.{Less, AtMost, Equal, AtLeast, Greater}
 use Rattle.zone.specs.Calls.{Calls}
-use Rattle.zone.specs.Laws.{Laws, in_range, moderate}
-use Rattle.zone.specs.Valuations.{Valuation, Meets, Bounded, reading, waited, zeroed}
+use Rattle.zone.specs.Laws.{Laws, in_range}
+use Rattle.zone.specs.Valuations.{Valuation, Meets, reading, waited, zeroed}
 use Rattle.zone.specs.declared.constraint.Constraint.{Constraint}
-use Rattle.zone.specs.declared.fault.ZoneFault.{ZoneFault}
-use Rattle.zone.specs.declared.fault.ZoneFault.TheVariants.{OutOfRange}
 use Rattle.book.specs.Following.{above, strictly_above, below, strictly_below, constraints_by, constraints_of, and_then, all_constrained, limited, all_reset, followed}
 
 eqb_self : (n : ℕ) → eqb n n ≡ true

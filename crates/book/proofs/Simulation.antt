@@ -1,5 +1,5 @@
 -- A concluded book bounds the visits of every run.
-use Rattle.std.proofs.Common.{◌≡◌, ℕ, zero, suc, ◌+◌, ◌<◌, ◌≤◌, min, Bool, true, false, cond, not, ◌&&◌, eqb, ◌⊎◌, List, [], ◌∷◌, length, get_or, take, IfOk, Some, None, Ok, Err, Option, Result, sym, refl, ap, ◌∙◌, subst, inl, inr, ⊎_elim, arith}
+use Rattle.std.proofs.Common.{◌≡◌, ℕ, suc, ◌+◌, ◌<◌, ◌≤◌, min, Bool, true, false, cond, ◌⊎◌, List, [], ◌∷◌, get_or, take, IfOk, Some, None, Ok, Err, Option, Result, sym, refl, ap, ◌∙◌, subst, inl, inr, ⊎_elim, arith}
 use Rattle.std.proofs.lemmas.Bool.{eqb-true, and_parts, cases_lt}
 use Rattle.std.specs.List.{ContainsAt as Has, AllByRecursion as All}
 use Rattle.sheet.specs.Automata.{Automaton, Edge, location}
@@ -8,7 +8,6 @@ use Rattle.zone.specs.Calls as zones
 use Rattle.zone.specs.Laws.{Laws}
 use Rattle.book.specs.Calls.{vacant, opened, place, covers_start, least_left, lesser, unmarked, verdict, concluding, played}
 use Rattle.book.specs.Covering.{covers}
-use Rattle.book.specs.Following.{followed}
 use Rattle.book.specs.Marks.{lowest}
 use Rattle.book.specs.Questions.{Asks, Keeps}
 use Rattle.book.specs.Standing.{accepting_at, Held, Right, Sound}

@@ -1,19 +1,17 @@
 -- Every call keeps every marked node right.
-use Rattle.std.proofs.Common.{◌≡◌, ℕ, zero, suc, ◌+◌, ◌<◌, ◌≤◌, Bool, true, false, cond, not, ◌&&◌, eqb, ltb, ◌⊎◌, List, [], ◌∷◌, ◌++◌, map, length, get_or, take, drop, set, replicate, Some, None, Ok, Err, Option, Result, sym, refl, ap, ◌∙◌, subst, inl, inr, ⊎_elim, arith}
+use Rattle.std.proofs.Common.{◌≡◌, ℕ, zero, suc, ◌<◌, Bool, true, false, cond, not, ◌&&◌, eqb, List, [], ◌∷◌, map, length, get_or, take, set, replicate, Ok, Err, Result, sym, refl, ap, ◌∙◌, subst, inl, inr, ⊎_elim, arith}
 use Rattle.std.proofs.lemmas.List.{length-set, length-map, length-take, length-replicate}
-use Rattle.std.proofs.lemmas.Bool.{eq-eqb, eqb-true, eqb-false, ltb-true, cond-true, cond-false, and_parts}
-use Rattle.std.specs.List.{ContainsAt as Has, HoldsAt}
-use Rattle.sheet.specs.Automata.{Automaton, Edge, location}
+use Rattle.std.proofs.lemmas.Bool.{eqb-true, ltb-true, cond-true, cond-false, and_parts}
+use Rattle.std.specs.List.{ContainsAt as Has}
+use Rattle.sheet.specs.Automata.{Automaton, Edge}
 use Rattle.zone.specs.Calls as zones
-use Rattle.book.specs.Calls.{kept, vacant, opened, place, at_hand, fitting, putting, struck, striking, stopped, marking, examining, done, played}
+use Rattle.book.specs.Calls.{kept, vacant, opened, place, at_hand, fitting, putting, struck, striking, marking, examining, done, played}
 use Rattle.book.specs.Covering.{covers, walked}
-use Rattle.book.specs.Following.{followed}
-use Rattle.book.specs.Marks.{none, fresh, vacant_with, with_marks, unleaned, lowest}
+use Rattle.book.specs.Marks.{none, fresh, with_marks, unleaned}
 use Rattle.book.specs.Questions.{Asks}
 use Rattle.book.specs.Standing.{accepting_at, Held, Right, Sound}
 use Rattle.book.specs.declared.call.Call.{Call}
 use Rattle.book.specs.declared.call.Call.TheVariants.{Put, Strike, Examine, Conclude}
-use Rattle.book.specs.declared.fault.BookFault.{BookFault}
 use Rattle.book.specs.declared.fault.BookFault.TheVariants as fault
 use Rattle.book.specs.declared.place.Place.{Place}
 use Rattle.book.specs.declared.walk.Stop.{Stop}

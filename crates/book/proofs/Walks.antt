@@ -1,17 +1,15 @@
 -- What the walk over a node's edges has found when it ends.
-use Rattle.std.proofs.Common.{◌≡◌, ℕ, zero, suc, ◌+◌, ◌<◌, ◌≤◌, min, Bool, true, false, cond, not, ◌&&◌, eqb, ◌⊎◌, List, [], ◌∷◌, length, get_or, take, set, Some, None, Ok, Err, Option, Result, sym, refl, ap, ◌∙◌, subst, inl, inr, arith}
-use Rattle.std.proofs.lemmas.List.{length-set, length-take}
+use Rattle.std.proofs.Common.{◌≡◌, ℕ, zero, suc, ◌+◌, ◌<◌, ◌≤◌, Bool, true, false, cond, eqb, ◌⊎◌, List, [], ◌∷◌, length, get_or, set, Some, None, Ok, Err, Option, Result, sym, refl, ◌∙◌, subst, inl, inr, arith}
+use Rattle.std.proofs.lemmas.List.{length-set}
 use Rattle.std.proofs.lemmas.Bool.{eq-eqb, eqb-true, cond-true}
-use Rattle.std.specs.List.{ContainsAt as Has}
-use Rattle.sheet.specs.Automata.{Automaton, Edge, location}
+use Rattle.sheet.specs.Automata.{Automaton, Edge}
 use Rattle.zone.specs.Calls as zones
 use Rattle.zone.specs.declared.fault.ZoneFault.{ZoneFault}
-use Rattle.book.specs.Calls.{place, covers_start, least_left, lesser}
 use Rattle.book.specs.Covering.{on_with, covers, found, leaned, owed, walked}
 use Rattle.book.specs.Following.{followed}
-use Rattle.book.specs.Marks.{lowest, none}
+use Rattle.book.specs.Marks.{lowest}
 use Rattle.book.specs.Questions.{Asks}
-use Rattle.book.specs.Standing.{accepting_at, Held}
+use Rattle.book.specs.Standing.{accepting_at}
 use Rattle.book.specs.declared.place.Place.{Place}
 use Rattle.book.specs.declared.walk.Stop.{Stop}
 use Rattle.book.proofs.Fronts.{getD_of_set}

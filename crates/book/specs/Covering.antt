@@ -1,5 +1,5 @@
 -- Which place covers a zone, and what a node's edges lean on.
-use Rattle.std.specs.Prelude.{ℕ, suc, Bool, true, false, cond, ◌&&◌, List, [], ◌∷◌, Some, None, Ok, Err, Option, Result, ◌==◌, slice_set}
+use Rattle.std.specs.Prelude.{ℕ, suc, Bool, true, cond, ◌&&◌, List, [], ◌∷◌, Some, None, Ok, Err, Option, Result, ◌==◌, slice_set}
 use Rattle.sheet.specs.Automata.{Automaton, Edge, location}
 use Rattle.zone.specs.Calls.{Calls}
 use Rattle.zone.specs.declared.fault.ZoneFault.{ZoneFault}

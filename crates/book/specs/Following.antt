@@ -1,5 +1,5 @@
 -- The zone that following an edge leads to.
-use Rattle.std.specs.Prelude.{ℕ, true, false, List, [], ◌∷◌, ◌++◌, ℤ, pos, neg_ℤ, Ok, Err, Result}
+use Rattle.std.specs.Prelude.{ℕ, true, false, List, [], ◌∷◌, pos, neg_ℤ, Ok, Err, Result}
 use Rattle.sheet.specs.Automata.{Automaton, Edge, location}
 use Rattle.sheet.specs.declared.atom.Atom.{Atom}
 use Rattle.sheet.specs.declared.atom.Relation.{Relation}

@@ -1,6 +1,6 @@
 -- When examine and conclude grant, and what a refusal names.
-use Rattle.std.specs.Prelude.{◌≡◌, ℕ, ◌<◌, ◌≤◌, Bool, true, false, ◌⊎◌, List, length, get_or, Ok, Err, Result, slice_index_or}
-use Rattle.sheet.specs.Automata.{Automaton, Edge, location}
+use Rattle.std.specs.Prelude.{◌≡◌, ℕ, ◌<◌, ◌≤◌, true, false, ◌⊎◌, List, length, get_or, Ok, slice_index_or}
+use Rattle.sheet.specs.Automata.{Automaton, Edge}
 use Rattle.zone.specs.Calls as zones
 use Rattle.book.specs.Calls.{place, at_hand, covers_start}
 use Rattle.book.specs.Covering.{covers}

@@ -1,5 +1,5 @@
 -- Places by their fields alone, whatever the kind of zone.
-use Rattle.std.specs.Prelude.{ℕ, suc, Bool, true, false, cond, List, [], ◌∷◌, map, replicate, Some, None, Option, slice_index_or}
+use Rattle.std.specs.Prelude.{ℕ, suc, Bool, true, false, cond, List, [], ◌∷◌, replicate, Some, None, Option, slice_index_or}
 use Rattle.book.specs.declared.place.Place.{Place}
 
 -- leaning on no place

@@ -1,5 +1,5 @@
 -- What a question is, and the two questions.
-use Rattle.std.specs.Prelude.{◌≡◌, ℕ, ◌+◌, ◌≤◌, Bool, true, false, cond, not, ◌||◌, nat_le, nat_lt}
+use Rattle.std.specs.Prelude.{◌≡◌, ℕ, ◌+◌, ◌≤◌, Bool, true, cond, not, ◌||◌, nat_le, nat_lt}
 
 pub record Asks : Type 0 where
   pub admits : Bool → ℕ → Bool

@@ -1,4 +1,6 @@
 // The certificate book: questions, places, and the calls that judge a certificate.
+#![tactic(auto)]
+
 mod book;
 mod call;
 mod conclude;

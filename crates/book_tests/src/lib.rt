@@ -1,3 +1,5 @@
+#![tactic(auto)]
+
 // Tests of the book, mostly written once for both kinds of zones.
 #[cfg(test)]
 mod concludes;

@@ -1,4 +1,6 @@
 // Judges a certificate file from standard input, and prints one line.
+#![tactic(auto)]
+
 use judgement::verdict_line;
 use std::io;
 use std::io::Read;

@@ -1,4 +1,6 @@
 // Lists the records of a file from standard input, and how its reading ends.
+#![tactic(auto)]
+
 mod line;
 
 use line::{EndingLine, RecordLine};

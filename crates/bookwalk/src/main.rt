@@ -1,4 +1,6 @@
 // Works through one certificate on a book, from the file of its sheet to the number that it gives, and prints each step.
+#![tactic(auto)]
+
 mod example;
 mod shown;
 mod walk;

@@ -1,4 +1,6 @@
 // Judges the files of a table and prints the verdict on each under its name. A line of standard input is a case.
+#![tactic(auto)]
+
 mod fault;
 mod hex;
 mod token;
@@ -11,7 +13,7 @@ use std::io::{BufRead, BufReader};
 // The verdict on the file of a case.
 fn answer(heap: Global, tokens: &str) -> Result<String, AllocError> {
     match token::file(heap, tokens) {
-        Ok(file) => check::verdict_line(heap, file.as_slice()),
+        Ok(file) => judgement::verdict_line(heap, file.as_slice()),
         Err(CaseFault::Malformed) => String::from_str(heap, "MALFORMED"),
         Err(CaseFault::NoMemory) => Err(AllocError),
     }

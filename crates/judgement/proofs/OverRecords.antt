@@ -1,5 +1,5 @@
 -- A loop over the records of a file that goes on while each step is granted.
-use Rattle.std.proofs.Common.{◌≡◌, ℕ, ◌+◌, ◌<◌, ◌≤◌, List, [], ◌∷◌, map, length, get_or, drop, Ok, Err, Result, refl}
+use Rattle.std.proofs.Common.{◌≡◌, ℕ, ◌+◌, ◌<◌, ◌≤◌, List, [], ◌∷◌, map, length, get_or, drop, Ok, Err, Result}
 use Rattle.reader.specs.declared.listing.Placed.{Placed}
 use Rattle.book.specs.Following.{and_then}
 use Rattle.book.proofs.Folding.{folded_more, folded_stop, folded_all}

@@ -1,21 +1,20 @@
 -- The records of a sheet, one record further on.
-use Rattle.std.proofs.Common.{◌≡◌, ℕ, suc, ◌+◌, ◌<◌, ◌≤◌, Bool, true, false, cond, ◌⊎◌, List, [], ◌∷◌, ◌++◌, map, length, get_or, drop, Some, None, Ok, Err, Option, Result, sym, refl, ap, ◌∙◌, subst, inl, inr, ⊎_elim, add-one, arith}
+use Rattle.std.proofs.Common.{◌≡◌, ℕ, suc, ◌+◌, ◌<◌, ◌≤◌, Bool, true, false, cond, ◌⊎◌, List, [], ◌∷◌, ◌++◌, map, length, get_or, drop, Ok, Err, Result, sym, refl, ap, ◌∙◌, subst, inl, inr, ⊎_elim, arith}
 use Rattle.std.proofs.lemmas.List.{drop_more, drop_all}
 use Rattle.reader.specs.Entries.{Entry, entry_of}
 use Rattle.reader.specs.declared.kind.Kind.TheVariants as kind
 use Rattle.reader.specs.declared.listing.Placed.{Placed}
 use Rattle.reader.specs.declared.record.Record.{Record}
 use Rattle.reader.specs.declared.record.Record.TheVariants.{Head, Accepting, Limit, Edge, Guard, SheetEnd, Book, Node, Bound, FileEnd}
-use Rattle.sheet.specs.Drafts.{contents, Takes}
+use Rattle.sheet.specs.Drafts.{Takes}
 use Rattle.sheet.specs.Fields.{is}
-use Rattle.sheet.specs.Judged.{refusal}
 use Rattle.sheet.specs.Taken.{Contents, Took}
 use Rattle.sheet.specs.declared.draft.Draft.{Draft}
 use Rattle.sheet.specs.declared.fault.SheetFault.{SheetFault}
 use Rattle.sheet.specs.declared.fault.SheetFault.TheVariants.{Memory}
 use Rattle.judgement.specs.Drafting.{sheet_length, taken_unless, taking, drafting, Wanting, Drafts}
 use Rattle.judgement.specs.Faults.{located, refusal_of}
-use Rattle.reader.specs.Readings.{Sited, sited_of}
+use Rattle.reader.specs.Readings.{sited_of}
 use Rattle.judgement.specs.declared.fault.CheckFault.{CheckFault}
 use Rattle.judgement.specs.declared.fault.Located.{Located}
 use Rattle.judgement.specs.declared.fault.CheckFault.TheVariants as fault

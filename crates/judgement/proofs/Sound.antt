@@ -1,5 +1,5 @@
 -- The places that a certificate leaves are those of a list of calls on a new book, so the number that is concluded bounds the visits.
-use Rattle.std.proofs.Common.{◌≡◌, ℕ, Bool, true, false, cond, ltb, List, [], ◌∷◌, ◌++◌, length, ℤ, IfOk, Some, None, Ok, Err, Option, Result, sym, refl, ap, ◌∙◌, subst, arith}
+use Rattle.std.proofs.Common.{◌≡◌, ℕ, Bool, true, false, cond, List, [], ◌∷◌, ◌++◌, IfOk, Some, None, Ok, Err, Option, Result, sym, refl, ap, ◌∙◌, subst, arith}
 use Rattle.std.specs.List.{range_with_len}
 use Rattle.reader.specs.Readings.{Sited}
 use Rattle.reader.specs.declared.listing.Ending.{Ending}
@@ -17,7 +17,7 @@ use Rattle.book.specs.declared.fault.BookFault.{BookFault}
 use Rattle.book.specs.declared.place.Place.{Place}
 use Rattle.book.proofs.Simulation.{history_bounds}
 use Rattle.judgement.specs.Certifying.{node_offset, end_of, in_file, stands, concluded, examined_at, all_examined, certifying_from}
-use Rattle.judgement.specs.Nodes.{Progress, in_book, progress, put_latest, with_bound, with_node, pending, advanced, advancing, all_advanced}
+use Rattle.judgement.specs.Nodes.{Progress, in_book, progress, put_latest, with_bound, pending, advanced, advancing, all_advanced}
 use Rattle.judgement.specs.Parts.{Part, book, node, bound, end, other, part_of}
 use Rattle.judgement.specs.declared.fault.CheckFault.{CheckFault}
 use Rattle.judgement.specs.declared.nodes.Pending.{Pending}

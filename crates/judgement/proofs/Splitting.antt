@@ -6,7 +6,7 @@ use Rattle.reader.specs.Entries.{Entry, entry_of}
 use Rattle.reader.specs.Files.{MadeOf}
 use Rattle.reader.specs.Kinds.{byte_of}
 use Rattle.reader.specs.Listings.{entries, Lists}
-use Rattle.reader.specs.Readings.{Sited, sited, sited_of, reading}
+use Rattle.reader.specs.Readings.{Sited, sited, sited_of}
 use Rattle.reader.specs.declared.kind.Kind.{Kind}
 use Rattle.reader.specs.declared.kind.Kind.TheVariants as kind
 use Rattle.reader.specs.declared.listing.Ending.{Ending}

@@ -1,5 +1,5 @@
 -- Every file gets a verdict, and the line of a number is that of no other verdict.
-use Rattle.std.proofs.Common.{◌≡◌, ℕ, ◌^◌, ◌<◌, ◌≤◌, Bool, true, false, cond, ◌&&◌, eqb, ltb, leb, ◌⊎◌, List, [], ◌∷◌, ◌++◌, length, take, drop, ℤ, is_some, Some, None, Ok, Err, codes, decimal, Option, Result, sym, refl, ap, ◌∙◌, subst, inl, inr, ⊎_elim, arith}
+use Rattle.std.proofs.Common.{◌≡◌, ℕ, ◌^◌, ◌<◌, ◌≤◌, Bool, true, false, cond, ◌&&◌, eqb, ltb, leb, List, [], ◌∷◌, length, take, drop, ℤ, Some, None, Ok, Err, codes, decimal, Option, Result, refl, subst, ⊎_elim, arith}
 use Rattle.std.proofs.lemmas.Fmt.{decimal_injective}
 use Rattle.std.proofs.lemmas.List.{append_cancel_left, append_cancel_right}
 use Rattle.std.proofs.lemmas.Bool.{cases_lt}
@@ -16,22 +16,22 @@ use Rattle.sheet.specs.Described.{count, described}
 use Rattle.sheet.specs.Judged.{drafted, fits, room, refusal_by}
 use Rattle.sheet.specs.Ready.{hold_at_zero, readiness}
 use Rattle.sheet.specs.declared.fault.SheetFault.{SheetFault}
-use Rattle.sheet.specs.declared.fault.SheetFault.TheVariants.{OutOfPlace, OutOfRange, TooMany, StartOutsideLimit}
+use Rattle.sheet.specs.declared.fault.SheetFault.TheVariants.{OutOfPlace, StartOutsideLimit}
 use Rattle.zone.specs.BoxCalls.{box_calls}
 use Rattle.zone.specs.Calls as zones
 use Rattle.zone.specs.DifferenceCalls.{difference_calls}
 use Rattle.zone.specs.declared.fault.ZoneFault.{ZoneFault}
-use Rattle.book.specs.Calls.{opened, putting, examining, concluding}
+use Rattle.book.specs.Calls.{concluding}
 use Rattle.book.specs.Following.{and_then}
 use Rattle.book.specs.Questions.{Asks, unreachability, emptiness}
 use Rattle.book.specs.declared.fault.BookFault.{BookFault}
 use Rattle.book.specs.declared.place.Place.{Place}
-use Rattle.judgement.specs.Certifying.{node_offset, end_of, in_file, stands, concluded, examined_at, all_examined, certifying_from, certifying}
+use Rattle.judgement.specs.Certifying.{node_offset, end_of, in_file, stands, concluded, examined_at, all_examined, certifying_from}
 use Rattle.judgement.specs.Described.{Bounds}
 use Rattle.judgement.specs.Drafting.{sheet_length, taken_unless, taking, drafting, in_sheet, sealing}
-use Rattle.judgement.specs.Judged.{certified_by, certified, after_sheet, from_sheet, judged, judging, Judgeable}
+use Rattle.judgement.specs.Judged.{certified, after_sheet, from_sheet, judging, Judgeable}
 use Rattle.judgement.specs.Lines.{verdict_text, line}
-use Rattle.judgement.specs.Nodes.{Progress, progress, in_book, in_bound, with_zone, bounded, with_bound, put_latest, with_node, advanced, advancing, all_advanced}
+use Rattle.judgement.specs.Nodes.{Progress, progress, in_book, in_bound, with_zone, bounded, with_bound, put_latest, advanced, advancing, all_advanced}
 use Rattle.judgement.specs.Parts.{Part, book, node, bound, end, other, part_of}
 use Rattle.judgement.specs.declared.fault.CheckFault.{CheckFault}
 use Rattle.judgement.specs.declared.nodes.Pending.{Pending}

@@ -1,5 +1,5 @@
 -- What the records of a certificate come to, in a book on 64 places of its own.
-use Rattle.std.specs.Prelude.{ℕ, ◌-◌, Bool, true, false, cond, List, [], ◌∷◌, map, length, replicate, Some, None, Ok, Err, Option, Result, ◌==◌, slice_index, slice_index_or}
+use Rattle.std.specs.Prelude.{ℕ, ◌-◌, Bool, false, cond, List, [], ◌∷◌, map, length, replicate, Some, None, Ok, Err, Option, Result, ◌==◌, slice_index, slice_index_or}
 use Rattle.std.specs.List.{range_with_len}
 use Rattle.reader.specs.declared.fault.FileFault.{FileFault}
 use Rattle.reader.specs.declared.listing.Ending.{Ending}
@@ -12,7 +12,7 @@ use Rattle.book.specs.Following.{and_then}
 use Rattle.book.specs.Questions.{Asks}
 use Rattle.book.specs.declared.fault.BookFault.{BookFault}
 use Rattle.book.specs.declared.place.Place.{Place}
-use Rattle.judgement.specs.Nodes.{Progress, in_book, put_latest, all_advanced}
+use Rattle.judgement.specs.Nodes.{in_book, put_latest, all_advanced}
 use Rattle.reader.specs.Readings.{Sited}
 use Rattle.judgement.specs.Parts.{Part, book, node, bound, end, other, part_of}
 use Rattle.judgement.specs.declared.fault.CheckFault.{CheckFault}

@@ -1,5 +1,5 @@
 -- The automaton and the certificate that the bytes of a file describe.
-use Rattle.std.specs.Prelude.{◌≡◌, ℕ, List, [], ◌∷◌, ◌++◌, map, ℤ, ◌==◌}
+use Rattle.std.specs.Prelude.{◌≡◌, ℕ, List, [], ◌∷◌, ◌++◌, map, ◌==◌}
 use Rattle.reader.specs.Entries.{Entry}
 use Rattle.reader.specs.Files.{MadeOf}
 use Rattle.reader.specs.Readings.{Sited}

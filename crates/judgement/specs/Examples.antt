@@ -1,5 +1,5 @@
 -- Worked examples, in one statement.
-use Rattle.std.specs.Prelude.{◌≡◌, ℕ, Bool, true, false, List, [], ◌∷◌, ◌++◌, map, take, pos, is_ok, Ok, Err, codes, Result}
+use Rattle.std.specs.Prelude.{◌≡◌, ℕ, Bool, true, false, List, [], ◌∷◌, ◌++◌, map, take, is_ok, Ok, Err, codes, Result}
 use Rattle.reader.specs.Readings.{reading, sited}
 use Rattle.sheet.specs.Automata.{Automaton}
 use Rattle.sheet.specs.Described.{described}
@@ -8,7 +8,7 @@ use Rattle.zone.specs.Calls as zones
 use Rattle.zone.specs.DifferenceCalls.{difference_calls}
 use Rattle.zone.specs.declared.fault.ZoneFault.{ZoneFault}
 use Rattle.zone.specs.declared.fault.ZoneFault.TheVariants as zone_fault
-use Rattle.book.specs.Calls.{told, kept, opened, examining, concluding, played}
+use Rattle.book.specs.Calls.{told, opened, examining, concluding, played}
 use Rattle.book.specs.Following.{above, below, all_constrained, and_then}
 use Rattle.book.specs.Questions.{Asks, emptiness}
 use Rattle.book.specs.declared.call.Call.{Call}

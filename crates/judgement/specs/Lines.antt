@@ -2,7 +2,6 @@
 use Rattle.std.specs.Prelude.{ℕ, List, [], ◌∷◌, ◌++◌, Some, None, codes, decimal, Option}
 use Rattle.std.proofs.Math.Utf8.{encode}
 use Rattle.reader.specs.Grounds.{number_of, letter_of}
-use Rattle.judgement.specs.declared.verdict.Refusal.{Refusal}
 use Rattle.judgement.specs.declared.verdict.Verdict.{Verdict}
 use Rattle.judgement.specs.declared.verdict.Verdict.TheVariants.{Stands, Refused}
 

@@ -1,9 +1,8 @@
 -- The nodes of a certificate, record by record, as they are put in a book's places.
-use Rattle.std.specs.Prelude.{ℕ, Bool, true, false, cond, ◌&&◌, List, [], ◌∷◌, length, ℤ, Some, None, Ok, Err, Option, Result, ◌==◌, nat_le, nat_lt}
+use Rattle.std.specs.Prelude.{ℕ, cond, ◌&&◌, List, [], ◌∷◌, length, ℤ, Some, None, Ok, Err, Option, Result, ◌==◌, nat_le, nat_lt}
 use Rattle.reader.specs.declared.fault.FileFault.TheVariants as file
 use Rattle.sheet.specs.Automata.{Automaton}
 use Rattle.zone.specs.Calls as zones
-use Rattle.zone.specs.declared.constraint.Constraint.{Constraint}
 use Rattle.zone.specs.declared.fault.ZoneFault.{ZoneFault}
 use Rattle.zone.specs.declared.fault.ZoneFault.TheVariants as zone_fault
 use Rattle.book.specs.Calls.{putting}

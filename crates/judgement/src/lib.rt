@@ -1,4 +1,6 @@
 // The judgement of a whole certificate file: its bytes in, one line out.
+#![tactic(auto)]
+
 mod certify;
 mod drafting;
 mod example;

@@ -1,4 +1,5 @@
 // Tests of the reader: good files, and files damaged in each way that it refuses.
+#![tactic(auto)]
 
 #[cfg(test)]
 mod tests {

@@ -1,5 +1,5 @@
 -- A sheet of one clock x and two locations: x ≤ 5 at the start, and an edge to the accepting location that needs x ≥ 2 and sets x to zero.
-use Rattle.std.specs.Prelude.{true, false, List, [], ◌∷◌}
+use Rattle.std.specs.Prelude.{true, false, [], ◌∷◌}
 use Rattle.sheet.specs.Automata.{Automaton}
 use Rattle.sheet.specs.declared.atom.Relation.TheVariants.{AtMost, AtLeast}
 

@@ -1,4 +1,6 @@
 // Drafts and sheets from given records.
+#![tactic(auto)]
+
 ghost use Rattle.std.specs.Prelude.{◌≡◌, IfOk};
 ghost use Rattle.sheet.specs.Sheets.{automaton_of};
 ghost use Rattle.sheet_tests.specs.Examples.{example_automaton};

@@ -1,3 +1,5 @@
+#![tactic(auto)]
+
 // Tests of the two kinds of zones, mostly written once for both.
 #[cfg(test)]
 mod refusals;

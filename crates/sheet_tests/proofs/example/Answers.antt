@@ -1,4 +1,3 @@
-use Rattle.std.proofs.Common.{◌≡◌, refl, ◌∙◌}
 use Rattle.sheet.specs.Fields.{clocks_named}
 use Rattle.sheet_tests.proofs.example.Goals as goal
 

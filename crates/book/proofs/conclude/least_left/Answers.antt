@@ -1,4 +1,4 @@
-use Rattle.std.proofs.Common.{◌≡◌, ◌+◌, drop, Some, sym, ap, ◌∙◌}
+use Rattle.std.proofs.Common.{◌+◌, drop, Some, sym, ap, ◌∙◌}
 use Rattle.sheet.specs.Sheets.{automaton_of}
 use Rattle.book.specs.Calls.{lesser, least_left}
 use Rattle.book.proofs.Least.{joined, least_more, least_same, least_all}

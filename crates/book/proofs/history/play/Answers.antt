@@ -1,4 +1,4 @@
-use Rattle.std.proofs.Common.{◌≡◌, IfOk, sym, ap, ◌∙◌, subst}
+use Rattle.std.proofs.Common.{IfOk, sym, ap, ◌∙◌, subst}
 use Rattle.sheet.specs.Runs.{AtMostVisits}
 use Rattle.sheet.specs.Sheets.{automaton_of}
 use Rattle.sheet.specs.declared.sheet.Sheet.{Sheet}

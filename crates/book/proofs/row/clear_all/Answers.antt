@@ -1,5 +1,4 @@
 use Rattle.std.proofs.Common.{◌∙◌, arith}
-use Rattle.book.specs.declared.place.Place.{Place}
 use Rattle.book.proofs.Fronts.{front_of, fill_more}
 use Rattle.book.proofs.row.clear_all.Goals as goal
 

@@ -11,8 +11,8 @@ returns g c =
     let asks = g.Q.Question.asks in
     let new = c.open-book.ensures in
     let xs = map sited_of c.args.records.now in
-    let value = c.certify-in.ensures ∙ (λ i. certifying_from calls (asks (new.question i)) (automaton_of (new.sheet i)) (new.places i) xs c.args.ending) in
+    let value = c.certify_in.ensures ∙ (λ i. certifying_from calls (asks (new.question i)) (automaton_of (new.sheet i)) (new.places i) xs c.args.ending) in
     record {
       value = value;
-      bounds = certified_bounds calls (asks c.args.question) (automaton_of c.args.sheet) g.met.Z.Zone.sound (g.met.Q.Question.lawful c.args.question) c.args.places.now xs c.args.ending c.certify-in.result value;
+      bounds = certified_bounds calls (asks c.args.question) (automaton_of c.args.sheet) g.met.Z.Zone.sound (g.met.Q.Question.lawful c.args.question) c.args.places.now xs c.args.ending c.certify_in.result value;
     }

@@ -6,6 +6,6 @@ use Rattle.judgement.proofs.example.one_visit_line.Goals as goal
 
 pub returns : goal.returns
 returns c = record {
-  value = IfOk-weaker c.verdict-line.result _ _ (λ text is. is ∙ ap printed c.one-visit.ensures ∙ worked_examples.differences) c.verdict-line.ensures.value;
+  value = IfOk-weaker c.verdict_line.result _ _ (λ text is. is ∙ ap printed c.one_visit.ensures ∙ worked_examples.differences) c.verdict_line.ensures.value;
   worked = worked_examples;
 }

@@ -1,4 +1,4 @@
-use Rattle.std.proofs.Common.{List, map, length, IfOk, vec_items, sym, ap, ◌∙◌, subst}
+use Rattle.std.proofs.Common.{List, map, length, IfOk, vec_items, ap, ◌∙◌, subst}
 use Rattle.std.proofs.lemmas.Result.{IfOk-weaker}
 use Rattle.reader.specs.Readings.{sited_of}
 use Rattle.reader.specs.declared.listing.Placed.{Placed}
@@ -10,12 +10,12 @@ use Rattle.judgement.proofs.judge.judge.Goals as goal
 pub returns : goal.returns
 returns c =
     let bytes = c.args.input.now in
-    let ps = vec_items c.in-ok-listing.listing.records in
-    let ending = c.in-ok-listing.listing.ending in
-    let listing = c.in-ok-listing.ensures in
-    let same = c.as-slice.ensures.value in
+    let ps = vec_items c.in_ok-listing.listing.records in
+    let ending = c.in_ok-listing.listing.ending in
+    let listing = c.in_ok-listing.ensures in
+    let same = c.as_slice.ensures.value in
     record {
-      value = subst (λ s. Tells s c.judge-records.result) (ap (λ (qs : List Placed). judged ending (length bytes) (map sited_of qs)) same ∙ judged_listing bytes ps ending listing) c.judge-records.ensures.value;
-      bounds = IfOk-weaker c.judge-records.result (BoundsIn (map sited_of ps) ending) (Bounds bytes) (λ n b. bounds_listing bytes ps ending n listing b)
-          (subst (λ (qs : List Placed). IfOk c.judge-records.result (BoundsIn (map sited_of qs) ending)) same c.judge-records.ensures.bounds);
+      value = subst (λ s. Tells s c.judge_records.result) (ap (λ (qs : List Placed). judged ending (length bytes) (map sited_of qs)) same ∙ judged_listing bytes ps ending listing) c.judge_records.ensures.value;
+      bounds = IfOk-weaker c.judge_records.result (BoundsIn (map sited_of ps) ending) (Bounds bytes) (λ n b. bounds_listing bytes ps ending n listing b)
+          (subst (λ (qs : List Placed). IfOk c.judge_records.result (BoundsIn (map sited_of qs) ending)) same c.judge_records.ensures.bounds);
     }

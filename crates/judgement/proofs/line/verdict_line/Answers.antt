@@ -6,9 +6,9 @@ use Rattle.judgement.proofs.line.verdict_line.Goals as goal
 
 pub returns : goal.returns
 returns c =
-    let v = c.in-ok-verdict.verdict in
-    let known = c.in-ok-verdict.ensures in
+    let v = c.in_ok-verdict.verdict in
+    let known = c.in_ok-verdict.ensures in
     record {
-      value = IfOk-weaker c.line-of.result _ _ (λ text is. is ∙ sym (ap line_by known.value)) c.line-of.ensures;
-      bounds = IfOk-weaker c.line-of.result _ _ (λ text is n same. line_bounds c.args.input.now v n known.bounds (sym is ∙ same)) c.line-of.ensures;
+      value = IfOk-weaker c.line_of.result _ _ (λ text is. is ∙ sym (ap line_by known.value)) c.line_of.ensures;
+      bounds = IfOk-weaker c.line_of.result _ _ (λ text is n same. line_bounds c.args.input.now v n known.bounds (sym is ∙ same)) c.line_of.ensures;
     }

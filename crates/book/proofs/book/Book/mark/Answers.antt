@@ -1,6 +1,4 @@
-use Rattle.std.proofs.Common.{sym, ap, ◌∙◌}
 use Rattle.sheet.specs.Sheets.{automaton_of}
-use Rattle.book.specs.Calls.{examined}
 use Rattle.book.proofs.Judging.{within, examine_granted}
 use Rattle.book.proofs.book.Book.mark.Goals as goal
 

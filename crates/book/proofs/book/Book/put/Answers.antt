@@ -1,8 +1,7 @@
-use Rattle.std.proofs.Common.{◌≡◌, Ok, Err, sym, refl, ap, ◌∙◌, arith}
+use Rattle.std.proofs.Common.{Err, sym, ap, ◌∙◌}
 use Rattle.std.proofs.lemmas.Result.{err_from_is_err_and}
 use Rattle.sheet.specs.Sheets.{automaton_of}
-use Rattle.book.specs.Calls.{putting, kept}
-use Rattle.book.specs.Marks.{fresh}
+use Rattle.book.specs.Calls.{putting}
 use Rattle.book.proofs.Judging.{refused_keeps, put_granted, within}
 use Rattle.book.proofs.book.Book.put.Goals as goal
 
