@@ -1,7 +1,7 @@
 -- What following an edge leads to holds every valuation that a run can reach by it.
 use Rattle.std.proofs.Common.{◌≡◌, ℕ, zero, suc, ◌*◌, ◌<◌, ◌≤◌, Bool, true, false, cond, eqb, List, [], ◌∷◌, Ok, Err, Result, sym, refl, ap, ◌∙◌, subst, mul-zero, arith}
 use Rattle.std.proofs.lemmas.Bool.{eqb-true, eq-eqb}
-use Rattle.std.specs.List.{AllByRecursion as All}
+use Rattle.std.specs.List.{AllByRecursion}
 use Rattle.sheet.specs.Automata.{Automaton, Edge, location}
 use Rattle.sheet.specs.Runs as runs
 use Rattle.sheet.specs.Runs.{Holds, Compares}
@@ -89,7 +89,7 @@ module _ {Z Row : Type 0} (calls : Calls Z Row) (laws : Laws calls) where
       let same : s.0 ≡ y = (let q = s.2 in cc) in
       subst (λ (w : Z). calls.holds w k v) same (laws.constrained_holds z s.0 (strictly_below x c) k v s.1 p holds (greater_meets k v x c (not_zero z s.0 x (strictly_below x c) refl refl s.1) h))
 
-  limited_holds : (z y : Z) (k : ℕ) (v : Valuation) (atoms : List Atom) → 0 < k → All (Holds k v) atoms → limited calls z atoms ≡ Ok y → calls.holds z k v → calls.holds y k v
+  limited_holds : (z y : Z) (k : ℕ) (v : Valuation) (atoms : List Atom) → 0 < k → AllByRecursion (Holds k v) atoms → limited calls z atoms ≡ Ok y → calls.holds z k v → calls.holds y k v
   limited_holds z y k v [] p h ok holds = let same : z ≡ y = cc in subst (λ (w : Z). calls.holds w k v) same holds
   limited_holds z y k v (atom ∷ atoms) p h ok holds =
       let s = then_ok (all_constrained calls z (constraints_of atom)) _ y ok in
@@ -102,9 +102,9 @@ module _ {Z Row : Type 0} (calls : Calls Z Row) (laws : Laws calls) where
       all_reset_holds s.0 y k (zeroed v x) xs p s.2 (laws.reset_holds z s.0 x k v s.1 p holds)
 
   pub followed_holds : (a : Automaton) (z y : Z) (e : Edge) (k d : ℕ) (v : Valuation) → 0 < k → followed calls a z e ≡ Ok y → calls.holds z k v
-      → All (Holds k (waited v d)) (location a e.source).limit
-      → All (Holds k (waited v d)) e.guard
-      → All (Holds k (runs.all_zeroed (waited v d) e.resets)) (location a e.target).limit
+      → AllByRecursion (Holds k (waited v d)) (location a e.source).limit
+      → AllByRecursion (Holds k (waited v d)) e.guard
+      → AllByRecursion (Holds k (runs.all_zeroed (waited v d) e.resets)) (location a e.target).limit
       → calls.holds y k (runs.all_zeroed (waited v d) e.resets)
   followed_holds a z y e k d v p ok holds limit guard target =
       let s = then_ok (limited calls (calls.elapsed z) (location a e.source).limit) _ y ok in

@@ -1,7 +1,7 @@
 -- A concluded book bounds the visits of every run.
 use Rattle.std.proofs.Common.{◌≡◌, ℕ, suc, ◌+◌, ◌<◌, ◌≤◌, min, Bool, true, false, cond, ◌⊎◌, List, [], ◌∷◌, get_or, take, IfOk, Some, None, Ok, Err, Option, Result, sym, refl, ap, ◌∙◌, subst, inl, inr, ⊎_elim, arith}
 use Rattle.std.proofs.lemmas.Bool.{eqb-true, and_parts, cases_lt}
-use Rattle.std.specs.List.{ContainsAt as Has, AllByRecursion as All}
+use Rattle.std.specs.List.{ContainsAt, AllByRecursion}
 use Rattle.sheet.specs.Automata.{Automaton, Edge, location}
 use Rattle.sheet.specs.Runs.{Valuation, Holds, Run, starts, steps, visit, waited, all_zeroed, AtMostVisits}
 use Rattle.zone.specs.Calls as zones
@@ -72,8 +72,8 @@ module _ {Z Row : Type 0} (calls : zones.Calls Z Row) (asks : Asks) (a : Automat
         let b = and_parts _ _ c.0 in
         record { at = f.0; standing = b.0; located = eqb-true _ _ b.1; holds = laws.zero_sound _ k c.1 p; leaves = omega (arith, f.2) }
 
-    met_after : (k l visits d : ℕ) (v : Valuation) (e : Edge) → 0 < k → Meets k l visits v → Has a.edges e → e.source ≡ l
-        → All (Holds k (waited v d)) (location a l).limit → All (Holds k (waited v d)) e.guard → All (Holds k (all_zeroed (waited v d) e.resets)) (location a e.target).limit
+    met_after : (k l visits d : ℕ) (v : Valuation) (e : Edge) → 0 < k → Meets k l visits v → ContainsAt a.edges e → e.source ≡ l
+        → AllByRecursion (Holds k (waited v d)) (location a l).limit → AllByRecursion (Holds k (waited v d)) e.guard → AllByRecursion (Holds k (all_zeroed (waited v d) e.resets)) (location a e.target).limit
         → Meets k e.target (visits + visit a e.target) (all_zeroed (waited v d) e.resets)
     met_after k l visits d v e pos m has source limit guard target = go held.covered
       where
@@ -84,7 +84,7 @@ module _ {Z Row : Type 0} (calls : zones.Calls Z Row) (asks : Asks) (a : Automat
         held = (all_right m.at m.standing).edges e has (source ∙ sym m.located)
 
         reached : calls.holds held.zone k (all_zeroed (waited v d) e.resets)
-        reached = followed_holds calls laws a (calls.of_row p.zone) held.zone e k d v pos held.leads m.holds (subst (λ (x : ℕ). All (Holds k (waited v d)) (location a x).limit) (sym source) limit) guard target
+        reached = followed_holds calls laws a (calls.of_row p.zone) held.zone e k d v pos held.leads m.holds (subst (λ (x : ℕ). AllByRecursion (Holds k (waited v d)) (location a x).limit) (sym source) limit) guard target
 
         go : (calls.empty held.zone ≡ true) ⊎ ((j : ℕ) × (get_or p.leans j false ≡ true) × (covers calls asks (accepting_at calls asks a p) p.number e.target held.zone (place calls asks a ps j) ≡ true))
             → Meets k e.target (visits + visit a e.target) (all_zeroed (waited v d) e.resets)

@@ -2,7 +2,7 @@
 use Rattle.std.proofs.Common.{◌≡◌, ℕ, zero, suc, ◌<◌, Bool, true, false, cond, not, ◌&&◌, eqb, List, [], ◌∷◌, map, length, get_or, take, set, replicate, Ok, Err, Result, sym, refl, ap, ◌∙◌, subst, inl, inr, ⊎_elim, arith}
 use Rattle.std.proofs.lemmas.List.{length-set, length-map, length-take, length-replicate}
 use Rattle.std.proofs.lemmas.Bool.{eqb-true, ltb-true, cond-true, cond-false, and_parts}
-use Rattle.std.specs.List.{ContainsAt as Has}
+use Rattle.std.specs.List.{ContainsAt}
 use Rattle.sheet.specs.Automata.{Automaton, Edge}
 use Rattle.zone.specs.Calls as zones
 use Rattle.book.specs.Calls.{kept, vacant, opened, place, at_hand, fitting, putting, struck, striking, marking, examining, done, played}
@@ -167,7 +167,7 @@ module _ {Z Row : Type 0} (calls : zones.Calls Z Row) (asks : Asks) (a : Automat
       let w = walk calls asks a (vacant calls asks a) p (take 64 ps) (omega (arith, length-take 64 ps)) 0 a.edges none leans (length-replicate 64 false) h in
       record { admitted = admitted; edges = λ e m s. held w e m s }
     where
-      held : Walked calls asks a (vacant calls asks a) p (take 64 ps) a.edges none leans → (e : Edge) → Has a.edges e → e.source ≡ p.location → Held calls asks a ps leans (with_marks true leans p) e
+      held : Walked calls asks a (vacant calls asks a) p (take 64 ps) a.edges none leans → (e : Edge) → ContainsAt a.edges e → e.source ≡ p.location → Held calls asks a ps leans (with_marks true leans p) e
       held w e m s =
           let is : get_or a.edges m.0 e ≡ e = m.2 e in
           let k = subst (Kept calls asks a (vacant calls asks a) p (take 64 ps) leans) is (w.keeps m.0 e m.1 (ap (λ (d : Edge). d.source) is ∙ s)) in

@@ -1,6 +1,6 @@
 -- What a marked node stands on.
 use Rattle.std.specs.Prelude.{◌≡◌, ℕ, Bool, true, false, ◌⊎◌, List, Ok, slice_index_or}
-use Rattle.std.specs.List.{ContainsAt as Has}
+use Rattle.std.specs.List.{ContainsAt}
 use Rattle.sheet.specs.Automata.{Automaton, Edge, location}
 use Rattle.zone.specs.Calls as zones
 use Rattle.book.specs.Calls.{place}
@@ -22,7 +22,7 @@ module _ {Z Row : Type 0} (calls : zones.Calls Z Row) (asks : Asks) (a : Automat
   -- the question admits node p, and each edge from its location is held
   pub record Right (ps : List (Place Row)) (p : Place Row) : Type 0 where
     pub admitted : asks.admits (accepting_at p) p.number ≡ true
-    pub edges : (e : Edge) → Has a.edges e → e.source ≡ p.location → Held ps p.leans p e
+    pub edges : (e : Edge) → ContainsAt a.edges e → e.source ≡ p.location → Held ps p.leans p e
 
   -- every marked node is right
   abbrev pub Sound : List (Place Row) → Type 0

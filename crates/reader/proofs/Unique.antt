@@ -2,7 +2,7 @@
 use Rattle.std.proofs.Common.{◌≡◌, ℕ, ◌+◌, ◌≤◌, Bool, true, false, List, [], ◌∷◌, ◌++◌, length, take, Some, None, Option, sym, refl, ap, ◌∙◌, subst, append_assoc, append-nil, arith}
 use Rattle.std.proofs.lemmas.List.{length-append, take_at, append_cancel_left}
 use Rattle.std.proofs.lemmas.Bool.{and_parts, and_from, cond-true, cond-false, le-leb, lt-leb}
-use Rattle.std.specs.List.{flat_map, AllByRecursion as All}
+use Rattle.std.specs.List.{flat_map, AllByRecursion}
 use Rattle.reader.specs.Entries.{Entry, entry, encoded}
 use Rattle.reader.specs.Files.{kinds, Whole, Stops, at_end, past_end, missing, unknown, short, misplaced, Ends, too_long, stops, MadeOf}
 use Rattle.reader.specs.Kinds.{byte_of, body_length, kind_of}
@@ -112,7 +112,7 @@ module _ (before : List Kind) (ordered : in_order [] before ≡ true) where
 pub record Tail (before : List Kind) (at : ℕ) (bytes : List ℕ) (es : List Entry) (x : Ending) : Type 0 where
   pub left : List ℕ
   pub joins : flat_map encoded es ++ left ≡ bytes
-  pub bodies : All Whole es
+  pub bodies : AllByRecursion Whole es
   pub ordered : in_order before (kinds es) ≡ true
   pub stops : Stops (before ++ kinds es) (at + length (flat_map encoded es)) left x
 

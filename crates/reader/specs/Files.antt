@@ -1,6 +1,6 @@
 -- The records of which a file is made, and how its reading ends.
 use Rattle.std.specs.Prelude.{◌≡◌, ℕ, ◌+◌, ◌<◌, ◌≤◌, true, false, List, [], ◌∷◌, ◌++◌, map, length, take, ◌≢◌}
-use Rattle.std.specs.List.{flat_map, AllByRecursion as All}
+use Rattle.std.specs.List.{flat_map, AllByRecursion}
 use Rattle.reader.specs.Entries.{Entry, encoded}
 use Rattle.reader.specs.Kinds.{byte_of, body_length}
 use Rattle.reader.specs.Order.{has, allowed, in_order}
@@ -38,7 +38,7 @@ pub data Ends (bytes : List ℕ) (es : List Entry) (rest : List ℕ) : Ending �
 pub record MadeOf (bytes : List ℕ) (es : List Entry) (ending : Ending) : Type 0 where
   pub rest : List ℕ
   pub joins : flat_map encoded es ++ rest ≡ bytes
-  pub bodies : All Whole es
+  pub bodies : AllByRecursion Whole es
   pub ordered : in_order [] (kinds es) ≡ true
   pub ends : Ends bytes es rest ending
 
@@ -47,7 +47,7 @@ pub record ReadTo (bytes : List ℕ) (es : List Entry) (at : ℕ) (s : Stage) : 
   pub within : at ≤ length bytes
   pub fits : 0 < at → length bytes ≤ max_length
   pub joins : flat_map encoded es ≡ take at bytes
-  pub bodies : All Whole es
+  pub bodies : AllByRecursion Whole es
   pub ordered : in_order [] (kinds es) ≡ true
   pub leaves : stage_of (kinds es) ≡ s
 

@@ -3,7 +3,7 @@ use Rattle.std.proofs.Common.{◌≡◌, ℕ, zero, suc, ◌+◌, ◌*◌, ◌<�
 use Rattle.std.proofs.lemmas.List.{at_drop_more, at_drop_all}
 use Rattle.std.proofs.lemmas.Bool.{ltb-true, lt-ltb, leb-true, le-leb, eqb-true, eq-eqb, not-false}
 use Rattle.std.proofs.ByRecursion.{Decides-by_and}
-use Rattle.std.specs.List.{AllByRecursion as All}
+use Rattle.std.specs.List.{AllByRecursion}
 use Rattle.reader.proofs.Orders.{follows}
 use Rattle.reader.specs.Entries.{Entry}
 use Rattle.reader.specs.Files.{kinds}
@@ -47,7 +47,7 @@ compares_tells AtLeast k c h = (λ e. omega (arith, times_zero k c (omega (arith
 compares_tells Greater k c h = (λ e. absurd (omega (arith, ltb-true c 0 e)), λ p. absurd (omega arith))
 
 -- the test at zero decides whether atoms hold at the origin
-pub zero_tells : (k : ℕ) → 0 < k → (atoms : List Atom) → Decides (hold_at_zero atoms) (All (Holds k origin) atoms)
+pub zero_tells : (k : ℕ) → 0 < k → (atoms : List Atom) → Decides (hold_at_zero atoms) (AllByRecursion (Holds k origin) atoms)
 zero_tells k h atoms =
     Decides-by_and (λ (x : Atom). compares x.relation 0 x.constant) (Holds k origin) hold_at_zero
     (λ x. compares_tells x.relation k x.constant h) refl (λ _ _. refl) atoms

@@ -1,6 +1,6 @@
 -- Whether a draft of some records is ready, and the automaton of the sheet that it is sealed to.
 use Rattle.std.specs.Prelude.{ℕ, ◌<◌, Bool, true, cond, ◌&&◌, List, [], ◌∷◌, is_ok, Ok, Err, Result, ◌==◌, nat_le, nat_lt}
-use Rattle.std.specs.List.{AllByRecursion as All}
+use Rattle.std.specs.List.{AllByRecursion}
 use Rattle.reader.specs.Entries.{Entry}
 use Rattle.reader.specs.Files.{kinds}
 use Rattle.reader.specs.Order.{has}
@@ -37,8 +37,8 @@ readiness es =
 
 -- what a draft's answer on being ready says of the start's limit at any number k of ticks to the unit
 abbrev pub Starts : Automaton → Result (Unit {0}) SheetFault → Type 0
-Starts a (Ok done) = (k : ℕ) → 0 < k → All (Holds k origin) (location a a.start).limit
-Starts a (Err StartOutsideLimit) = (k : ℕ) → 0 < k → All (Holds k origin) (location a a.start).limit → ⊥
+Starts a (Ok done) = (k : ℕ) → 0 < k → AllByRecursion (Holds k origin) (location a a.start).limit
+Starts a (Err StartOutsideLimit) = (k : ℕ) → 0 < k → AllByRecursion (Holds k origin) (location a a.start).limit → ⊥
 Starts a (Err OutOfPlace) = Unit {0}
 Starts a (Err OutOfRange) = Unit {0}
 Starts a (Err TooMany) = Unit {0}

@@ -1,6 +1,6 @@
 -- Runs of a timed automaton in ticks, and how often they visit accepting locations.
 use Rattle.std.specs.Prelude.{◌≡◌, ℕ, ◌+◌, ◌*◌, ◌<◌, ◌≤◌, cond, List, [], ◌∷◌, length, ◌==◌}
-use Rattle.std.specs.List.{ContainsAt as Has, AllByRecursion as All}
+use Rattle.std.specs.List.{ContainsAt, AllByRecursion}
 use Rattle.sheet.specs.Automata.{Automaton, Edge, location}
 use Rattle.sheet.specs.declared.atom.Atom.{Atom}
 use Rattle.sheet.specs.declared.atom.Relation.{Relation}
@@ -47,10 +47,10 @@ visit a l = cond (location a l).accepting 1 0
 pub data Run (a : Automaton) (k : ℕ) : ℕ → Valuation → ℕ → Type 0 where
   starts : a.start < length a.locations → Run a k a.start origin (visit a a.start)
   -- waits d ticks and takes the edge e
-  steps : {l n : ℕ} {v : Valuation} (d : ℕ) (e : Edge) → Run a k l v n → Has a.edges e → e.source ≡ l
-      → All (Holds k (waited v d)) (location a l).limit
-      → All (Holds k (waited v d)) e.guard
-      → All (Holds k (all_zeroed (waited v d) e.resets)) (location a e.target).limit
+  steps : {l n : ℕ} {v : Valuation} (d : ℕ) (e : Edge) → Run a k l v n → ContainsAt a.edges e → e.source ≡ l
+      → AllByRecursion (Holds k (waited v d)) (location a l).limit
+      → AllByRecursion (Holds k (waited v d)) e.guard
+      → AllByRecursion (Holds k (all_zeroed (waited v d) e.resets)) (location a e.target).limit
       → Run a k e.target (all_zeroed (waited v d) e.resets) (n + visit a e.target)
 
 -- no run visits accepting locations more than n times, whatever its length, waits and ticks to the unit
