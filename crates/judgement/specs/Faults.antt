@@ -20,7 +20,7 @@ located at (Ok x) = Ok x
 located at (Err f) = Err (record { fault = f; offset = at })
 
 abbrev pub refusal_with : Ground → Layer → ℕ → Option ℕ → Option ℕ → Refusal
-refusal_with number layer offset place edge = record { ground = number; layer = layer; offset = offset; place = place; edge = edge }
+refusal_with reason layer offset place edge = record { reason = reason; layer = layer; offset = offset; place = place; edge = edge }
 
 -- a refusal that names no node, of a ground and a layer that may be there
 abbrev pub plain_refusal : Option Ground → Option Layer → ℕ → Option Refusal

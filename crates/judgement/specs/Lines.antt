@@ -19,7 +19,7 @@ naming_by shown (Some x) = shown x
 abbrev pub verdict_text : Verdict → List ℕ
 verdict_text (Stands n) = codes "STANDS " ++ decimal n
 verdict_text (Refused r) =
-    codes "REFUSED " ++ (decimal (number_of r.ground) ++ (codes " " ++ (encode (letter_of r.layer) ++ (codes " " ++ (decimal r.offset ++ (codes " " ++ (naming r.place ++ (codes " " ++ naming r.edge))))))))
+    codes "REFUSED " ++ (decimal (number_of r.reason) ++ (codes " " ++ (encode (letter_of r.layer) ++ (codes " " ++ (decimal r.offset ++ (codes " " ++ (naming r.place ++ (codes " " ++ naming r.edge))))))))
 
 -- a text and the end of its line
 abbrev pub ended_line : List ℕ → List ℕ

@@ -55,17 +55,17 @@ impl CheckFault {
     {
         match self {
             CheckFault::File(fault) => Some(Refusal {
-                ground: fault.ground(),
+                reason: fault.ground(),
                 layer: fault.layer(),
                 offset: fault.offset(),
                 place: None,
                 edge: None,
             }),
             CheckFault::Sheet { fault, offset } => {
-                let ground = fault.ground()?;
+                let reason = fault.ground()?;
                 let layer = fault.layer()?;
                 Some(Refusal {
-                    ground,
+                    reason,
                     layer,
                     offset,
                     place: None,
@@ -77,7 +77,7 @@ impl CheckFault {
                 offset,
                 place,
             } => Some(Refusal {
-                ground: fault.ground(),
+                reason: fault.ground(),
                 layer: fault.layer(),
                 offset,
                 place: match fault {
@@ -87,7 +87,7 @@ impl CheckFault {
                 edge: None,
             }),
             CheckFault::Book { fault, offset } => Some(Refusal {
-                ground: fault.ground(),
+                reason: fault.ground(),
                 layer: fault.layer(),
                 offset,
                 place: fault.place(),

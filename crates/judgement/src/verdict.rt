@@ -8,7 +8,7 @@ use std::fmt;
 // A refusal, with the node's place and the edge's number where they are named.
 #[derive(Clone, Copy)]
 pub struct Refusal {
-    pub ground: Ground,
+    pub reason: Ground,
     pub layer: Layer,
     pub offset: usize,
     pub place: Option<u8>,
@@ -44,7 +44,7 @@ impl fmt::Display for Verdict {
         match self {
             Verdict::Stands(visits) => write!(f, "STANDS {visits}"),
             Verdict::Refused(refusal) => {
-                let ground = refusal.ground.number();
+                let ground = refusal.reason.number();
                 let layer = refusal.layer.letter();
                 let offset = refusal.offset;
                 let place = Named(refusal.place);
