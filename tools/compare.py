@@ -3,7 +3,7 @@
 
 tools/compare.py BINARY [--count N] [--seed S]
 
-BINARY reads a file from standard input and prints the line, as target/bin/bookcheck does. The files are certificates of
+BINARY reads a file from standard input and prints the line, as crates/bookcheck/out/bookcheck does. The files are certificates of
 random automata, made whole and then edited: most are refused, on all grounds that a file can meet.
 """
 import argparse

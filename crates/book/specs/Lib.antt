@@ -1,4 +1,5 @@
 pub mod Questions
+pub mod QuestionLaws
 pub mod Faults
 pub mod Marks
 pub mod Following

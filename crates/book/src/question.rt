@@ -1,7 +1,7 @@
 // What is asked of an automaton, as three functions with two laws.
 ghost use Rattle.std.specs.Prelude.{◌≡◌};
 ghost use Rattle.book.specs.Questions.{Asks, Keeps, unreachability, emptiness};
-ghost use Rattle.std.proofs.Common.{rules};
+ghost use Rattle.book.specs.QuestionLaws.{unreachability_keeps, emptiness_keeps};
 
 pub trait Question: Copy {
     ghost asks: { Self → Asks };
@@ -28,7 +28,7 @@ pub struct Unreachability;
 impl Question for Unreachability {
     ghost asks = { λ _. unreachability };
 
-    ghost lawful = { Prim.search rules };
+    ghost lawful = { λ _. unreachability_keeps };
 
     fn admits(&self, accepting: bool, _number: u16) -> bool {
         !accepting
@@ -50,7 +50,7 @@ pub struct Emptiness;
 impl Question for Emptiness {
     ghost asks = { λ _. emptiness };
 
-    ghost lawful = { Prim.search rules };
+    ghost lawful = { λ _. emptiness_keeps };
 
     fn admits(&self, accepting: bool, number: u16) -> bool {
         !accepting || number > 0
