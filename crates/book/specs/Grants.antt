@@ -1,5 +1,5 @@
 -- When examine and conclude grant, and what a refusal names.
-use Rattle.std.specs.Prelude.{◌≡◌, ℕ, ◌<◌, ◌≤◌, true, false, ◌⊎◌, List, length, get_or, Ok, slice_index_or}
+use Rattle.std.specs.Prelude.{◌≡◌, ℕ, ◌<◌, ◌≤◌, true, false, ◌⊎◌, List, length, Ok, slice_index_or}
 use Rattle.sheet.specs.Automata.{Automaton, Edge}
 use Rattle.zone.specs.Calls as zones
 use Rattle.book.specs.Calls.{place, at_hand, covers_start}
@@ -30,7 +30,7 @@ module _ {Z Row : Type 0} (calls : zones.Calls Z Row) (asks : Asks) (a : Automat
   -- edge n is the first from node p's location that is not answered: it leads to a zone that is not empty and that no place covers
   pub record FirstUncovered (p : Place Row) (n : ℕ) : Type 0 where
     pub within : n < length a.edges
-    pub leads : (d : Edge) → ((get_or a.edges n d).source ≡ p.location) × ((z : Z) × (followed calls a (calls.of_row p.zone) (slice_index_or a.edges n d) ≡ Ok z) × (calls.empty z ≡ false) × (Covered p (slice_index_or a.edges n d) z → ⊥))
+    pub leads : (d : Edge) → ((slice_index_or a.edges n d).source ≡ p.location) × ((z : Z) × (followed calls a (calls.of_row p.zone) (slice_index_or a.edges n d) ≡ Ok z) × (calls.empty z ≡ false) × (Covered p (slice_index_or a.edges n d) z → ⊥))
     pub before : (m : ℕ) (d : Edge) → m < n → Answered p (slice_index_or a.edges m d)
 
   -- what the refusal of an edge says

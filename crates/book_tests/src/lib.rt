@@ -1,6 +1,6 @@
+// Tests of the book, mostly written once for both kinds of zones.
 #![tactic(auto)]
 
-// Tests of the book, mostly written once for both kinds of zones.
 #[cfg(test)]
 mod concludes;
 #[cfg(test)]

@@ -67,7 +67,7 @@ module _ (r : BoxRow) (h : proper r ≡ true) (k : ℕ) (v : Valuation) (l : 0 <
   lying_inhabited : (g : Range) (x : ℕ) → Lies k g x → inhabited g ≢ false
   lying_inhabited g x (a, b) e = let t = obeys_itself k (plus g.lower g.upper) 0 l (obeys_plus k g.lower g.upper 0 x 0 a b) in rw e at t
 
-  none_empty : (x : ℕ) → x < 6 → inhabited (range_at r.ranges x) ≡ false → (t : Bool) → nat_lt x r.clocks ≢ t
+  none_empty : (x : ℕ) → x < 6 → inhabited (range_at r.ranges x) ≡ false → (t : Bool) → nat_lt x r.clocks ≡ t → ⊥
   none_empty x m e true i = lying_inhabited (range_at r.ranges x) (v (x + 1)) (lies r k v w x (ltb-true x r.clocks i)) e
   none_empty x m e false i = true≢false (subst (λ (g : Range). inhabited g ≡ false) (fits_past r.clocks x (range_at r.ranges x) (proper_fits r h x m) i) e)
 

@@ -1,6 +1,6 @@
+// Tests of the two kinds of zones, mostly written once for both.
 #![tactic(auto)]
 
-// Tests of the two kinds of zones, mostly written once for both.
 #[cfg(test)]
 mod refusals;
 #[cfg(test)]

@@ -42,7 +42,7 @@ pub(super) fn tightened(ranges: &[Range; 6], i: u8, j: u8, bound: Bound) -> [Ran
 }
 
 pub(super) fn are_inhabited(ranges: &[Range; 6]) -> bool
-    requires { (((k : ℕ) → k < 6 → size (range_at ranges.now k).lower ≤ 10000)) × (((k : ℕ) → k < 6 → size (range_at ranges.now k).upper ≤ 10000)) }
+    requires { ((k : ℕ) → k < 6 → size (range_at ranges.now k).lower ≤ 10000) × ((k : ℕ) → k < 6 → size (range_at ranges.now k).upper ≤ 10000) }
     ensures { result ≡ every (λ k. inhabited (range_at ranges.now k)) 6 }
 {
     for k in 0..6 {

@@ -78,7 +78,7 @@ pub(super) fn reset(bounds: &[Bound; 49], clock: u8) -> [Bound; 49]
 // The bound at k, or the sum by way of the new bound of clocks i and j.
 fn tightened_at(bounds: &[Bound; 49], i: u8, j: u8, bound: Bound, k: usize) -> Bound
     requires within { (k < 49) × ((i < 7) × (j < 7)) }
-    requires small { (((h : ℕ) → size (slice_index_or bounds.now h Free) ≤ 1000000)) × (size bound ≤ 10000) }
+    requires small { ((h : ℕ) → size (slice_index_or bounds.now h Free) ≤ 1000000) × (size bound ≤ 10000) }
     ensures { result ≡ tightened_grid (entry bounds.now) i j bound (k / 7) (k % 7) }
 {
     let before = bounds[7 * (k / 7) + i as usize];
@@ -89,7 +89,7 @@ fn tightened_at(bounds: &[Bound; 49], i: u8, j: u8, bound: Bound, k: usize) -> B
 // With the bound of clocks i and j.
 pub(super) fn tightened(bounds: &[Bound; 49], i: u8, j: u8, bound: Bound) -> [Bound; 49]
     requires within { (i < 7) × (j < 7) }
-    requires small { (((h : ℕ) → size (slice_index_or bounds.now h Free) ≤ 1000000)) × (size bound ≤ 10000) }
+    requires small { ((h : ℕ) → size (slice_index_or bounds.now h Free) ≤ 1000000) × (size bound ≤ 10000) }
     ensures { result ≡ listed (tightened_grid (entry bounds.now) i j bound) }
 {
     let mut out = [Bound::Free; 49];
