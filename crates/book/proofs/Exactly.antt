@@ -16,7 +16,7 @@ use Rattle.book.specs.declared.walk.Stop.{Stop}
 use Rattle.book.specs.declared.walk.Stop.TheVariants.{Uncovered, Refused}
 use Rattle.book.proofs.Walks.{lowest_some, lowest_none}
 
-apart : {A : Type 0} → true ≡ false → A
+pub apart : {A : Type 0} → true ≡ false → A
 apart p = absurd (let z : ◌≡◌ {A = ℕ} 0 1 = cc in omega arith)
 
 module _ {Z Row : Type 0} (calls : zones.Calls Z Row) (asks : Asks) (a : Automaton) (ps : List (Place Row)) (p : Place Row) where

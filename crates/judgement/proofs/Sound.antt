@@ -15,6 +15,7 @@ use Rattle.book.specs.declared.call.Call.{Call}
 use Rattle.book.specs.declared.call.Call.TheVariants.{Put, Examine}
 use Rattle.book.specs.declared.fault.BookFault.{BookFault}
 use Rattle.book.specs.declared.place.Place.{Place}
+use Rattle.book.proofs.Reaching.{then_ok}
 use Rattle.book.proofs.Simulation.{history_bounds}
 use Rattle.judgement.specs.Certifying.{node_offset, end_of, in_file, stands, concluded, examined_at, all_examined, certifying_from}
 use Rattle.judgement.specs.Nodes.{Progress, in_book, progress, put_latest, with_bound, pending, advanced, advancing, all_advanced}
@@ -23,10 +24,6 @@ use Rattle.judgement.specs.declared.fault.CheckFault.{CheckFault}
 use Rattle.judgement.specs.declared.nodes.Pending.{Pending}
 
 -- what an answer that is granted stands on
-
-pub and_then_ok : {X Y E : Type 0} (r : Result X E) (f : X → Result Y E) (y : Y) → and_then r f ≡ Ok y → (x : X) × (r ≡ Ok x) × (f x ≡ Ok y)
-and_then_ok (Ok x) f y p = (x, refl, p)
-and_then_ok (Err e) f y p = absurd (let z : ◌≡◌ {A = ℕ} 0 1 = cc in omega arith)
 
 not_ok : {X E : Type 0} (e : E) (x : X) → Err e ≡ Ok x → ⊥
 not_ok e x p = let z : ◌≡◌ {A = ℕ} 0 1 = cc in omega arith
@@ -72,7 +69,7 @@ module _ {Z Row : Type 0} (calls : zones.Calls Z Row) (asks : Asks) (a : Automat
   node_reached : (s t : Progress Z Row) (at place location number : ℕ) (fits : Bool) (e : CheckFault)
       → cond fits (and_then (put_latest calls asks a s) (λ ps. Ok (ps, Some (pending at place location number (calls.whole a.clocks))))) (Err e) ≡ Ok t → Reached s.0 t.0
   node_reached s t at place location number true e p =
-      let put = and_then_ok (put_latest calls asks a s) _ t p in
+      let put = then_ok (put_latest calls asks a s) _ t p in
       let same : (put.0, Some (pending at place location number (calls.whole a.clocks))) ≡ t = cc in
       subst (Reached s.0) (ap (λ u. u.0) same) (put_reached s.0 s.1 put.0 put.1)
   node_reached s t at place location number false e p = absurd (not_ok _ _ p)
@@ -87,7 +84,7 @@ module _ {Z Row : Type 0} (calls : zones.Calls Z Row) (asks : Asks) (a : Automat
   all_advanced_reached : (xs : List Sited) (s t : Progress Z Row) → all_advanced calls asks a s xs ≡ Ok t → Reached s.0 t.0
   all_advanced_reached [] s t p = let same : s ≡ t = cc in reached_none s.0 t.0 (ap (λ u. u.0) same)
   all_advanced_reached (x ∷ xs) s t p =
-      let one = and_then_ok (advancing calls asks a s x) (λ u. all_advanced calls asks a u xs) t p in
+      let one = then_ok (advancing calls asks a s x) (λ u. all_advanced calls asks a u xs) t p in
       reached_then s.0 one.0.0 t.0 (advanced_reached s one.0 x.offset (part_of x.entry) one.1) (all_advanced_reached xs one.0 t one.2)
 
   examined_by : (ps qs : List (Place Row)) (at i : ℕ) (t : Bool) → cond t (in_book at (examining calls asks a ps i)) (Ok ps) ≡ Ok qs → Reached ps qs
@@ -98,7 +95,7 @@ module _ {Z Row : Type 0} (calls : zones.Calls Z Row) (asks : Asks) (a : Automat
   all_examined_reached : (xs : List Sited) (is : List ℕ) (ps qs : List (Place Row)) → all_examined calls asks a xs ps is ≡ Ok qs → Reached ps qs
   all_examined_reached xs [] ps qs p = reached_none ps qs cc
   all_examined_reached xs (i ∷ is) ps qs p =
-      let one = and_then_ok (examined_at calls asks a xs ps i) (λ rs. all_examined calls asks a xs rs is) qs p in
+      let one = then_ok (examined_at calls asks a xs ps i) (λ rs. all_examined calls asks a xs rs is) qs p in
       reached_then ps one.0 qs (examined_by ps one.0 (node_offset xs i) i (stands ps i) one.1) (all_examined_reached xs is one.0 qs one.2)
 
   -- a number is given only for a file that was read to its end, by a list of calls on the book
@@ -106,10 +103,10 @@ module _ {Z Row : Type 0} (calls : zones.Calls Z Row) (asks : Asks) (a : Automat
       → (ending ≡ End) × ((h : List (Call Z)) × (concluding calls asks a (played calls asks a h ps) ≡ Ok n))
   unfolding Reached
   granted ps xs ending n p =
-      let put = and_then_ok (all_advanced calls asks a (ps, None) xs) _ n p in
-      let end = and_then_ok (in_file (end_of ending)) _ n put.2 in
-      let last = and_then_ok (put_latest calls asks a put.0) _ n end.2 in
-      let marked = and_then_ok (all_examined calls asks a xs last.0 (range_with_len 0 64)) _ n last.2 in
+      let put = then_ok (all_advanced calls asks a (ps, None) xs) _ n p in
+      let end = then_ok (in_file (end_of ending)) _ n put.2 in
+      let last = then_ok (put_latest calls asks a put.0) _ n end.2 in
+      let marked = then_ok (all_examined calls asks a xs last.0 (range_with_len 0 64)) _ n last.2 in
       let way = reached_then ps put.0.0 marked.0 (all_advanced_reached xs (ps, None) put.0 put.1)
       (reached_then put.0.0 last.0 marked.0 (put_reached put.0.0 put.0.1 last.0 last.1) (all_examined_reached xs (range_with_len 0 64) last.0 marked.0 marked.1)) in
       (ended_whole ending end.0 end.1, (way.0, ap (concluding calls asks a) way.1 ∙ concluded_granted xs (concluding calls asks a marked.0) n marked.2))

@@ -24,7 +24,7 @@ use Rattle.judgement.specs.Described.{BookSecond, described_nodes, Bounds, Bound
 use Rattle.judgement.specs.Drafting.{sheet_length, taken_unless, taking, drafting, in_sheet, sealing, Wanting}
 use Rattle.judgement.specs.Judged.{from_sheet, judged, judging, Tells}
 use Rattle.judgement.specs.declared.fault.CheckFault.{CheckFault}
-use Rattle.judgement.proofs.Sound.{and_then_ok}
+use Rattle.book.proofs.Reaching.{then_ok}
 
 pub none_left : {X : Type 0} (xs : List X) → length xs ≡ 0 → xs ≡ []
 none_left [] h = refl
@@ -46,7 +46,7 @@ taken_all es ds x (Some f) p = cc
 pub drafting_takes : (xs : List Sited) (es ds : List Entry) → drafting es xs ≡ Ok ds → ds ≡ es ++ map (λ x. x.entry) xs
 drafting_takes [] es ds p = let same : es ≡ ds = cc in sym (append-nil es ∙ same)
 drafting_takes (x ∷ xs) es ds p =
-    let one = and_then_ok (taking es x) (λ cs. drafting cs xs) ds p in
+    let one = then_ok (taking es x) (λ cs. drafting cs xs) ds p in
     drafting_takes xs one.0 ds one.2
     ∙ ap (λ bs. bs ++ map (λ y. y.entry) xs) (taken_all es one.0 x (refusal es x.entry) one.1)
     ∙ append_assoc es (x.entry ∷ []) (map (λ y. y.entry) xs)

@@ -1,5 +1,6 @@
 -- What records in order have come, and that the stage decides which may come next.
 use Rattle.std.proofs.Common.{◌≡◌, Bool, true, false, cond, not, ◌&&◌, ◌||◌, eqb, List, [], ◌∷◌, ◌++◌, Some, None, sym, refl, ap, ◌∙◌, append_assoc, append-nil, arith}
+use Rattle.std.proofs.Math.Bool.{or-false}
 use Rattle.std.proofs.lemmas.Bool.{and_parts}
 use Rattle.reader.specs.Kinds.{byte_of}
 use Rattle.reader.specs.Order.{has, allowed, in_order}
@@ -9,16 +10,12 @@ use Rattle.reader.specs.declared.kind.Kind.TheVariants.{Head, Accepting, Limit, 
 use Rattle.reader.specs.declared.stage.Stage.{Stage}
 use Rattle.reader.specs.declared.stage.Stage.TheVariants as stage
 
-or_false : (a : Bool) → (a || false) ≡ a
-or_false true = refl
-or_false false = refl
-
 or_assoc : (a b c : Bool) → ((a || b) || c) ≡ (a || (b || c))
 or_assoc true b c = refl
 or_assoc false b c = refl
 
 has_push : (j : Kind) (ks : List Kind) (k : Kind) → has j (ks ++ k ∷ []) ≡ (has j ks || eqb (byte_of j) (byte_of k))
-has_push j [] k = or_false (eqb (byte_of j) (byte_of k))
+has_push j [] k = or-false (eqb (byte_of j) (byte_of k))
 has_push j (i ∷ ks) k = ap (λ b. eqb (byte_of j) (byte_of i) || b) (has_push j ks k) ∙ sym (or_assoc (eqb (byte_of j) (byte_of i)) (has j ks) (eqb (byte_of j) (byte_of k)))
 
 -- what has come, as far as it decides what may come

@@ -1,5 +1,6 @@
 -- What one more record changes in the automaton that records describe.
 use Rattle.std.proofs.Common.{◌≡◌, ℕ, zero, suc, ◌+◌, ◌<◌, Bool, true, false, cond, ◌||◌, List, [], ◌∷◌, ◌++◌, map, length, get_or, replicate, Some, None, filter, sym, refl, ap, ◌∙◌, ⊎_elim, arith}
+use Rattle.std.proofs.Math.Bool.{or-false}
 use Rattle.std.proofs.lemmas.List.FromFn.{fill_by_all, get_or-map-range_with_len, length-map-range_with_len}
 use Rattle.std.proofs.lemmas.List.Elements.{filter-append}
 use Rattle.std.proofs.lemmas.List.{get_or-set_same, get_or-set_other, length-set, length-append, map-append}
@@ -19,14 +20,6 @@ use Rattle.sheet.specs.declared.atom.Atom.{Atom}
 
 -- tests
 
-pub or_false : (a : Bool) → (a || false) ≡ a
-or_false true = refl
-or_false false = refl
-
-pub or_true : (a : Bool) → (a || true) ≡ true
-or_true true = refl
-or_true false = refl
-
 or_assoc : (a b c : Bool) → (a || (b || c)) ≡ ((a || b) || c)
 or_assoc true b c = refl
 or_assoc false b c = refl
@@ -38,7 +31,7 @@ cond_append false xs ys zs = refl
 -- one more record
 
 pub any_push : (test : Entry → Bool) (es : List Entry) (e : Entry) → any test (es ++ e ∷ []) ≡ (any test es || test e)
-any_push test [] e = or_false (test e)
+any_push test [] e = or-false (test e)
 any_push test (d ∷ es) e = ap (λ b. test d || b) (any_push test es e) ∙ or_assoc (test d) (any test es) (test e)
 
 pub count_push : (k : Kind) (es : List Entry) (e : Entry) → count k (es ++ e ∷ []) ≡ count k es + count k (e ∷ [])

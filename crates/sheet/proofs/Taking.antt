@@ -1,6 +1,7 @@
 -- A draft that has taken some records, and one more.
 use Rattle.std.proofs.Common.{◌≡◌, ℕ, Bool, true, false, cond, ◌&&◌, ◌||◌, eqb, List, [], ◌∷◌, ◌++◌, map, length, is_some, is_ok, Some, None, Ok, Err, Option, Result, sym, refl, ap, ◌∙◌, subst, inl, inr, append-nil, arith}
 use mathlib.Core.Logic.{∥∥₁_map}
+use Rattle.std.proofs.Math.Bool.{or-false, or-true}
 use Rattle.std.proofs.lemmas.List.{map_push}
 use Rattle.std.proofs.lemmas.Bool.{and_from, and_parts, eq-eqb, ne_eqb, true≢false, false≢true, not-true}
 use Rattle.std.specs.List.{range_with_len}
@@ -24,7 +25,7 @@ use Rattle.sheet.specs.Taken.{Contents, blank_contents, Took}
 use Rattle.sheet.specs.declared.fault.SheetFault.{SheetFault}
 use Rattle.sheet.specs.declared.part.Part.{Part}
 use Rattle.sheet.specs.declared.part.Part.TheVariants as part
-use Rattle.sheet.proofs.Describing.{or_true, or_false, count_push, head_of_push, location_push, relocated, replicated, edges_push, edges_guarded, length_edges, no_head}
+use Rattle.sheet.proofs.Describing.{count_push, head_of_push, location_push, relocated, replicated, edges_push, edges_guarded, length_edges, no_head}
 
 -- only a head may come first
 
@@ -110,11 +111,11 @@ accepting_more es body m =
     let l = field e 0 in
     relocated (described_location es) (described_location (es ++ e ∷ [])) accepted m l
     (location_push es e l ∙ (λ i. record {
-      accepting = (ap (λ b. any (concerns kind.Accepting l) es || b) (eq-eqb l l refl) ∙ or_true (any (concerns kind.Accepting l) es)) i;
+      accepting = (ap (λ b. any (concerns kind.Accepting l) es || b) (eq-eqb l l refl) ∙ or-true (any (concerns kind.Accepting l) es)) i;
       limit = append-nil (described_location es l).limit i;
     }))
     (λ k ne. location_push es e k ∙ (λ i. record {
-      accepting = (ap (λ b. any (concerns kind.Accepting k) es || b) (ne_eqb l k (λ q. ne (sym q))) ∙ or_false (any (concerns kind.Accepting k) es)) i;
+      accepting = (ap (λ b. any (concerns kind.Accepting k) es || b) (ne_eqb l k (λ q. ne (sym q))) ∙ or-false (any (concerns kind.Accepting k) es)) i;
       limit = append-nil (described_location es k).limit i;
     }))
 
@@ -124,11 +125,11 @@ limit_more es body m =
     let l = field e 0 in
     relocated (described_location es) (described_location (es ++ e ∷ [])) (limited (atom_at 1 e)) m l
     (location_push es e l ∙ (λ i. record {
-      accepting = or_false (any (concerns kind.Accepting l) es) i;
+      accepting = or-false (any (concerns kind.Accepting l) es) i;
       limit = ap (λ b. (described_location es l).limit ++ map (atom_at 1) (cond b (e ∷ []) [])) (eq-eqb l l refl) i;
     }))
     (λ k ne. location_push es e k ∙ (λ i. record {
-      accepting = or_false (any (concerns kind.Accepting k) es) i;
+      accepting = or-false (any (concerns kind.Accepting k) es) i;
       limit = (ap (λ b. (described_location es k).limit ++ map (atom_at 1) (cond b (e ∷ []) [])) (ne_eqb l k (λ q. ne (sym q))) ∙ append-nil (described_location es k).limit) i;
     }))
 
@@ -139,7 +140,7 @@ locations_stay es e m same = λ i. map (λ l. sym (same l) i) (range_with_len 0 
 plain_push : (es : List Entry) (e : Entry) → is kind.Accepting e ≡ false → is kind.Limit e ≡ false → (l : ℕ) → described_location (es ++ e ∷ []) l ≡ described_location es l
 plain_push es e p q l =
     location_push es e l ∙ (λ i. record {
-      accepting = (ap (λ b. any (concerns kind.Accepting l) es || (b && eqb (field e 0) l)) p ∙ or_false (any (concerns kind.Accepting l) es)) i;
+      accepting = (ap (λ b. any (concerns kind.Accepting l) es || (b && eqb (field e 0) l)) p ∙ or-false (any (concerns kind.Accepting l) es)) i;
       limit = (ap (λ b. (described_location es l).limit ++ map (atom_at 1) (cond (b && eqb (field e 0) l) (e ∷ []) [])) q ∙ append-nil (described_location es l).limit) i;
     })
 
