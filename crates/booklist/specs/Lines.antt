@@ -1,5 +1,5 @@
 -- The text of each line that the lister prints.
-use Rattle.std.specs.Prelude.{ℕ, List, ◌++◌, codes, decimal}
+use Rattle.std.specs.Prelude.{ℕ, List, ◌++◌, Ok, Err, codes, decimal}
 use Rattle.std.proofs.Math.Utf8.{encode}
 use Rattle.std.specs.Fmt.{signed_decimal}
 use Rattle.reader.specs.Faults.{ground_of, offset_of}
@@ -7,8 +7,7 @@ use Rattle.reader.specs.Grounds.{number_of, letter_of}
 use Rattle.reader.specs.declared.fields.Fields.{Fields}
 use Rattle.reader.specs.declared.fields.Fields.TheVariants.{Head, Accepting, Limit, Edge, Guard, SheetEnd, Book, Node, Bound, FileEnd}
 use Rattle.reader.specs.declared.ground.Layer.TheVariants as layer
-use Rattle.reader.specs.declared.listing.Ending.{Ending}
-use Rattle.reader.specs.declared.listing.Ending.TheVariants.{End, Refused}
+use Rattle.reader.specs.Endings.{Ending}
 
 -- a record by its kind, and its fields by name
 abbrev pub described : Fields → List ℕ
@@ -27,5 +26,5 @@ abbrev pub record_line : ℕ → Fields → List ℕ
 record_line offset fields = decimal offset ++ described fields
 
 abbrev pub ending_line : Ending → List ℕ
-ending_line End = codes "END"
-ending_line (Refused f) = codes "REFUSED " ++ (decimal (number_of (ground_of f)) ++ (codes " " ++ (encode (letter_of layer.File) ++ (codes " " ++ decimal (offset_of f)))))
+ending_line (Ok done) = codes "END"
+ending_line (Err f) = codes "REFUSED " ++ (decimal (number_of (ground_of f)) ++ (codes " " ++ (encode (letter_of layer.File) ++ (codes " " ++ decimal (offset_of f)))))

@@ -2,7 +2,7 @@
 ghost use Rattle.std.specs.Prelude.{Some};
 ghost use Rattle.booklist.specs.Lines.{record_line, ending_line};
 
-use reader::{Ending, Fields};
+use reader::{Fields, FileFault};
 use std::fmt;
 
 // A record at its offset.
@@ -94,7 +94,7 @@ impl fmt::Display for RecordLine {
 // How the reading of a file ended.
 #[derive(Clone, Copy)]
 pub struct EndingLine {
-    pub ending: Ending,
+    pub ending: Result<(), FileFault>,
 }
 
 impl fmt::Display for EndingLine {
@@ -102,12 +102,12 @@ impl fmt::Display for EndingLine {
 
     fn fmt<W: fmt::Write>(&self, f: &mut fmt::Formatter<W>) -> fmt::Result {
         match self.ending {
-            Ending::End => write!(f, "END"),
-            Ending::Refused(fault) => {
-                let ground = fault.ground().number();
-                let layer = fault.layer().letter();
+            Ok(()) => write!(f, "END"),
+            Err(fault) => {
+                let reason = fault.ground();
+                let layer = fault.layer();
                 let offset = fault.offset();
-                write!(f, "REFUSED {ground} {layer} {offset}")
+                write!(f, "REFUSED {reason} {layer} {offset}")
             }
         }
     }

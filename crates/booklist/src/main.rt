@@ -4,17 +4,12 @@
 mod line;
 
 use line::{EndingLine, RecordLine};
-use reader::Listing;
+use reader::{Listing, read_input};
 use std::io;
-use std::io::Read;
-
-// One byte more than the longest file, so that a longer one is seen to be too long.
-const READ_LIMIT: u64 = 65_536;
 
 fn main(rt: HostRuntime) -> io::Result<()> {
     let heap = rt.alloc();
-    let mut input = Vec::new(heap);
-    let _ = rt.stdin().take(READ_LIMIT).read_to_end(&mut input)?;
+    let input = read_input(heap, rt.stdin())?;
     let listing = Listing::of(heap, input.as_slice())?;
     for placed in listing.records.iter() {
         let line = RecordLine {

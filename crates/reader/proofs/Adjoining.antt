@@ -1,13 +1,12 @@
 -- A listing with one more record.
-use Rattle.std.proofs.Common.{◌≡◌, ℕ, ◌+◌, List, [], ◌∷◌, ◌++◌, length, sym, subst, arith}
+use Rattle.std.proofs.Common.{◌≡◌, ℕ, ◌+◌, List, [], ◌∷◌, ◌++◌, length, sym, subst, arith, Ok, Err}
 use Rattle.std.proofs.lemmas.List.{length-append, map_push}
 use Rattle.std.specs.List.{flat_map}
 use Rattle.reader.specs.Entries.{Entry, entry_of, encoded}
 use Rattle.reader.specs.Files.{MadeOf, ReadTo, Continues}
 use Rattle.reader.specs.Listings.{entries, Adjacent, Lists}
 use Rattle.reader.specs.Steps.{Step, hands, reach, stage_after}
-use Rattle.reader.specs.declared.listing.Ending.{Ending}
-use Rattle.reader.specs.declared.listing.Ending.TheVariants.{End, Refused}
+use Rattle.reader.specs.Endings.{Ending}
 use Rattle.reader.specs.declared.listing.Placed.{Placed}
 use Rattle.reader.specs.declared.stage.Stage.{Stage}
 use Rattle.reader.proofs.Reading.{reading_is, sited_adjacent}
@@ -42,8 +41,8 @@ listed_more bytes input ps qs p at to s t step is same pushed moved staged befor
     rw (pushed, moved, staged, is, entries_push ps p) (subst (λ (bs : List ℕ). Continues bs (entries ps) at s (hands (entry_of p.record))) same grown)
 
 stopped_so : (bytes : List ℕ) (es : List Entry) (at : ℕ) (s : Stage) (x : Ending) → Continues bytes es at s (stop x) → MadeOf bytes es x
-stopped_so bytes es at s End m = m
-stopped_so bytes es at s (Refused f) m = m
+stopped_so bytes es at s (Ok tt) m = m
+stopped_so bytes es at s (Err f) m = m
 
 -- reading ended
 pub listed_all : (bytes input : List ℕ) (ps : List Placed) (at : ℕ) (s : Stage) (x : Ending) (step : Step)

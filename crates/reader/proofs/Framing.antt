@@ -1,21 +1,22 @@
 -- A step of the reader hands out the next record of the file, or it is how reading ends.
-use Rattle.std.proofs.Common.{◌≡◌, ℕ, ◌+◌, ◌<◌, ◌≤◌, Bool, true, false, cond, eqb, ltb, leb, List, [], ◌∷◌, ◌++◌, length, take, drop, Some, None, Option, unwrap_or, sym, refl, ap, ◌∙◌, subst, ⊎_elim, append_assoc, append-nil, arith, take-add}
+use Rattle.std.proofs.Common.{◌≡◌, ℕ, ◌+◌, ◌<◌, ◌≤◌, Bool, true, false, cond, eqb, ltb, leb, List, [], ◌∷◌, ◌++◌, length, take, drop, Some, None, Option, unwrap_or, sym, refl, ap, ◌∙◌, subst, ⊎_elim, append_assoc, append-nil, arith, take-add, Ok, Err}
 use Rattle.std.proofs.ByRecursion.{All-push}
 use Rattle.std.proofs.lemmas.List.{length-take-le, length-drop, take-append-drop, map_push}
 use Rattle.std.proofs.lemmas.Bool.{ltb-true, ltb-false, leb-true, leb-false, eqb-true, and_from, cases_lt}
 use Rattle.std.specs.List.{flat_map}
 use Rattle.reader.specs.Entries.{Entry, entry, encoded}
 use Rattle.reader.specs.Files.{kinds, Whole, Stops, at_end, past_end, missing, unknown, short, misplaced, too_long, stops, MadeOf, ReadTo, Continues}
-use Rattle.reader.specs.Kinds.{byte_of, body_length, all_kinds, kind_among, kind_of}
+use Rattle.std.specs.Prelude.{ok_or}
+use Rattle.reader.specs.Kinds.{byte_of, body_length, all_kinds, kind_among, kind_of, kind_from}
 use Rattle.reader.specs.Order.{has, in_order}
 use Rattle.reader.specs.Stages.{stage_of, next_stage, Follows}
 use Rattle.reader.specs.Steps as steps
 use Rattle.reader.specs.Steps.{Step, hands, ends, refuses, ended, placed, bodied, known, due, step_at, step_in, max_length}
 use Rattle.reader.specs.declared.fault.FileFault.TheVariants.{TooLong}
 use Rattle.reader.specs.declared.kind.Kind.{Kind}
+use Rattle.reader.specs.declared.kind.UnknownByte.{UnknownByte}
 use Rattle.reader.specs.declared.kind.Kind.TheVariants.{Head, Accepting, Limit, Edge, Guard, SheetEnd, Book, Node, Bound, FileEnd}
-use Rattle.reader.specs.declared.listing.Ending.{Ending}
-use Rattle.reader.specs.declared.listing.Ending.TheVariants.{Refused}
+use Rattle.reader.specs.Endings.{Ending}
 use Rattle.reader.specs.declared.stage.Stage.{Stage}
 use Rattle.reader.proofs.Orders.{in_order_push, follows}
 
@@ -43,6 +44,13 @@ byte_among b (j ∷ js) k p = go (eqb b (byte_of j)) refl p (byte_among b js k)
 
 pub byte_of_kind : (b : ℕ) (k : Kind) → kind_of b ≡ Some k → b ≡ byte_of k
 byte_of_kind b k p = byte_among b all_kinds k p
+
+pub kind_read : (b : ℕ) (k : Kind) → kind_from b ≡ Ok k → kind_of b ≡ Some k
+kind_read b k p = go (kind_of b) p
+  where
+    go : (o : Option Kind) → ok_or {E = UnknownByte} o (record { 0 = b }) ≡ Ok k → o ≡ Some k
+    go None q = cc
+    go (Some j) q = cc
 
 pub no_kind : (b : ℕ) → kind_of b ≡ None → (k : Kind) → byte_of k ≡ b → ⊥
 no_kind b p k e =
@@ -123,7 +131,7 @@ module _ (bytes : List ℕ) (es : List Entry) (at : ℕ) (s : Stage) (before : R
     at_stage false e [] left = stopped fits [] left _ (missing (sym ended_is ∙ e) refl)
     at_stage false e (b ∷ rest) left = at_kind b rest left e (kind_of b) refl
 
-  unread : max_length < length bytes → MadeOf bytes es (Refused TooLong)
+  unread : max_length < length bytes → MadeOf bytes es (Err TooLong)
   unread long =
       let start : at ≡ 0 = ⊎_elim (λ (p : 0 < at). absurd (omega (arith, before.fits p))) (λ (q : at ≤ 0). omega arith) (cases_lt 0 at) in
       let none : es ≡ [] = none_joined es (before.joins ∙ ap (λ n. take n bytes) start) in

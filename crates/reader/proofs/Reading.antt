@@ -6,7 +6,7 @@ use Rattle.reader.specs.Listings.{entries, Adjacent}
 use Rattle.reader.specs.Readings.{read_on, reading, sited, sited_of}
 use Rattle.reader.specs.Stages.{stage_of}
 use Rattle.reader.specs.Steps.{Step, hands, ends, refuses, step_in, reach, stage_after}
-use Rattle.reader.specs.declared.listing.Ending.{Ending}
+use Rattle.reader.specs.Endings.{Ending}
 use Rattle.reader.specs.declared.listing.Placed.{Placed}
 use Rattle.reader.specs.declared.stage.Stage.{Stage}
 use Rattle.reader.proofs.Framing.{continues}

@@ -1,27 +1,15 @@
 -- What a step of the reader comes to, once its parts are known.
-use Rattle.std.proofs.Common.{◌≡◌, ℕ, ◌+◌, ◌≤◌, Bool, true, false, cond, ltb, leb, List, [], ◌∷◌, length, take, drop, Some, None, Option, sym, refl, ap, subst, arith}
+use Rattle.std.proofs.Common.{◌≡◌, ℕ, ◌+◌, ◌≤◌, Bool, true, false, cond, ltb, leb, List, [], ◌∷◌, length, take, drop, Some, None, Option, refl, subst, arith}
 use Rattle.std.proofs.lemmas.List.{length-take-le}
 use Rattle.std.proofs.lemmas.Bool.{cond-false, le-ltb, leb-true}
 use Rattle.reader.specs.Entries.{Entry, entry, cut}
 use Rattle.reader.specs.Kinds.{body_length, kind_of}
 use Rattle.reader.specs.Stages.{next_stage}
 use Rattle.reader.specs.Steps.{hands, refuses, ended, at_end, placed, bodied, known, due, step_at, step_in, max_length}
-use Rattle.reader.specs.declared.fault.FileFault.{FileFault}
 use Rattle.reader.specs.declared.fault.FileFault.TheVariants.{TooLong}
 use Rattle.reader.specs.declared.kind.Kind.{Kind}
 use Rattle.reader.specs.declared.stage.Stage.{Stage}
 use Rattle.reader.specs.declared.stage.Stage.TheVariants.{Start, Sheet, Edges, Sealed, Book, Nodes, Ended}
-
-pub some_from_cond : {X : Type 0} (t : Bool) (x e : X) → cond t (Some x) None ≡ Some e → (t ≡ true) × (x ≡ e)
-some_from_cond true x e p = (refl, cc)
-some_from_cond false x e p = (cc, cc)
-
-pub none_from_cond : {X : Type 0} (t : Bool) (x : X) → cond t (Some x) None ≡ None → t ≡ false
-none_from_cond true x p = cc
-none_from_cond false x p = refl
-
-pub cut_kind : (k : Kind) (rest : List ℕ) (e : Entry) → cut k rest ≡ Some e → e.kind ≡ k
-cut_kind k rest e p = ap (λ (x : Entry). x.kind) (sym (some_from_cond (leb (body_length k) (length rest)) (entry k (take (body_length k) rest)) e p).1)
 
 -- the file is short enough
 pub step_short : (bytes : List ℕ) (s : Stage) (at : ℕ) → length bytes ≤ max_length → step_in bytes s at ≡ step_at s at (drop at bytes)
@@ -45,31 +33,28 @@ pub record Reaches (bytes : List ℕ) (e : Entry) : Type 0 where
   pub body : length e.body ≡ body_length e.kind
   pub within : 1 + body_length e.kind ≤ length bytes
 
-not_hands : (f : FileFault) (e : Entry) → refuses f ≡ hands e → ⊥
-not_hands f e p = let z : ◌≡◌ {A = ℕ} 0 1 = cc in omega arith
-
 reaches_placed : (at b : ℕ) (k : Kind) (rest : List ℕ) (o : Option Stage) (e : Entry) → body_length k ≤ length rest → placed at (entry k (take (body_length k) rest)) o ≡ hands e → Reaches (b ∷ rest) e
-reaches_placed at b k rest None e h p = absurd (not_hands _ e p)
+reaches_placed at b k rest None e h p = absurd cc
 reaches_placed at b k rest (Some s) e h p =
     let same : entry k (take (body_length k) rest) ≡ e = cc in
     subst (Reaches (b ∷ rest)) same (record { body = length-take-le (body_length k) rest h; within = omega arith })
 
 reaches_bodied : (s : Stage) (at b : ℕ) (k : Kind) (rest : List ℕ) (e : Entry) (t : Bool) → leb (body_length k) (length rest) ≡ t → bodied s at k (cond t (Some (entry k (take (body_length k) rest))) None) ≡ hands e → Reaches (b ∷ rest) e
 reaches_bodied s at b k rest e true h p = reaches_placed at b k rest (next_stage s k) e (leb-true _ _ h) p
-reaches_bodied s at b k rest e false h p = absurd (not_hands _ e p)
+reaches_bodied s at b k rest e false h p = absurd cc
 
 reaches_known : (s : Stage) (at b : ℕ) (rest : List ℕ) (e : Entry) (o : Option Kind) → known s at o rest ≡ hands e → Reaches (b ∷ rest) e
-reaches_known s at b rest e None p = absurd (not_hands _ e p)
+reaches_known s at b rest e None p = absurd cc
 reaches_known s at b rest e (Some k) p = reaches_bodied s at b k rest e (leb (body_length k) (length rest)) refl p
 
 reaches_at : (s : Stage) (at : ℕ) (bytes : List ℕ) (e : Entry) (t : Bool) → cond t (at_end at bytes) (due s at bytes) ≡ hands e → Reaches bytes e
 reaches_at s at [] e true p = absurd (let z : ◌≡◌ {A = ℕ} 0 1 = cc in omega arith)
-reaches_at s at (b ∷ rest) e true p = absurd (not_hands _ e p)
-reaches_at s at [] e false p = absurd (not_hands _ e p)
+reaches_at s at (b ∷ rest) e true p = absurd cc
+reaches_at s at [] e false p = absurd cc
 reaches_at s at (b ∷ rest) e false p = reaches_known s at b rest e (kind_of b) p
 
 reaches_in : (bytes : List ℕ) (s : Stage) (at : ℕ) (e : Entry) (t : Bool) → cond t (refuses TooLong) (step_at s at (drop at bytes)) ≡ hands e → Reaches (drop at bytes) e
-reaches_in bytes s at e true p = absurd (not_hands _ e p)
+reaches_in bytes s at e true p = absurd cc
 reaches_in bytes s at e false p = reaches_at s at (drop at bytes) e (ended s) p
 
 pub reaches : (bytes : List ℕ) (s : Stage) (at : ℕ) (e : Entry) → step_in bytes s at ≡ hands e → Reaches (drop at bytes) e

@@ -1,5 +1,5 @@
 -- A file is made of one list of records, and its reading ends in one way.
-use Rattle.std.proofs.Common.{◌≡◌, ℕ, ◌+◌, ◌≤◌, Bool, true, false, List, [], ◌∷◌, ◌++◌, length, take, Some, None, Option, sym, refl, ap, ◌∙◌, subst, append_assoc, append-nil, arith}
+use Rattle.std.proofs.Common.{◌≡◌, ℕ, ◌+◌, ◌≤◌, Bool, true, false, List, [], ◌∷◌, ◌++◌, length, take, Some, None, Option, sym, refl, ap, ◌∙◌, subst, append_assoc, append-nil, arith, Ok, Err}
 use Rattle.std.proofs.lemmas.List.{length-append, take_at, append_cancel_left}
 use Rattle.std.proofs.lemmas.Bool.{and_parts, and_from, cond-true, cond-false, le-leb, lt-leb}
 use Rattle.std.specs.List.{flat_map, AllByRecursion}
@@ -12,30 +12,26 @@ use Rattle.reader.specs.Steps as steps
 use Rattle.reader.specs.Steps.{Step, hands, ends, refuses, ended, placed, bodied, known, due, step_at, max_length}
 use Rattle.reader.specs.declared.kind.Kind.{Kind}
 use Rattle.reader.specs.declared.kind.Kind.TheVariants.{FileEnd}
-use Rattle.reader.specs.declared.listing.Ending.{Ending}
-use Rattle.reader.specs.declared.listing.Ending.TheVariants.{End, Refused}
+use Rattle.reader.specs.Endings.{Ending}
 use Rattle.reader.specs.declared.stage.Stage.{Stage}
 use Rattle.reader.specs.declared.stage.Stage.TheVariants.{Start, Sheet, Edges, Sealed, Book, Nodes, Ended}
 use Rattle.reader.proofs.Framing.{kind_of_byte, byte_of_kind, ended_has}
 use Rattle.reader.proofs.Orders.{in_order_push, follows}
 
-clash : true ≡ false → ⊥
-clash p = let z : ◌≡◌ {A = ℕ} 0 1 = cc in omega arith
-
 -- the step that ends a reading
 abbrev pub stop : Ending → Step
-stop End = ends
-stop (Refused f) = refuses f
+stop (Ok tt) = ends
+stop (Err f) = refuses f
 
 stop_one : (x y : Ending) → stop x ≡ stop y → x ≡ y
-stop_one End End p = refl
-stop_one End (Refused f) p = cc
-stop_one (Refused f) End p = cc
-stop_one (Refused f) (Refused g) p = cc
+stop_one (Ok _) (Ok _) p = refl
+stop_one (Ok tt) (Err f) p = cc
+stop_one (Err f) (Ok tt) p = cc
+stop_one (Err f) (Err g) p = cc
 
 stop_hands : (x : Ending) (e : Entry) → stop x ≡ hands e → ⊥
-stop_hands End e p = let z : ◌≡◌ {A = ℕ} 0 1 = cc in omega arith
-stop_hands (Refused f) e p = let z : ◌≡◌ {A = ℕ} 0 1 = cc in omega arith
+stop_hands (Ok tt) e p = cc
+stop_hands (Err f) e p = cc
 
 no_kind_of : (b : ℕ) → ((k : Kind) → byte_of k ≡ b → ⊥) → kind_of b ≡ None
 no_kind_of b h = go (kind_of b) refl
@@ -59,13 +55,13 @@ module _ (before : List Kind) (ordered : in_order [] before ≡ true) where
     where
       go : (o : Option Stage) → Follows before k o → o ≡ None
       go None f = refl
-      go (Some t) f = absurd (clash (sym f.0 ∙ h))
+      go (Some t) f = let is = f.0 in cc
 
   some_stage : (k : Kind) → allowed before k ≡ true → (t : Stage) × (next_stage (stage_of before) k ≡ Some t)
   some_stage k h = go (next_stage (stage_of before) k) refl (follows before (stage_of before) k ordered refl)
     where
       go : (o : Option Stage) → next_stage (stage_of before) k ≡ o → Follows before k o → (t : Stage) × (next_stage (stage_of before) k ≡ Some t)
-      go None e f = absurd (clash (sym h ∙ f))
+      go None e f = absurd cc
       go (Some t) e f = (t, e)
 
   not_over : (k : Kind) → allowed before k ≡ true → ended (stage_of before) ≡ false

@@ -1,5 +1,5 @@
 -- The records of which a file is made, and how its reading ends.
-use Rattle.std.specs.Prelude.{◌≡◌, ℕ, ◌+◌, ◌<◌, ◌≤◌, true, false, List, [], ◌∷◌, ◌++◌, map, length, take, ◌≢◌}
+use Rattle.std.specs.Prelude.{◌≡◌, ℕ, ◌+◌, ◌<◌, ◌≤◌, true, false, List, [], ◌∷◌, ◌++◌, map, length, take, ◌≢◌, Ok, Err}
 use Rattle.std.specs.List.{flat_map, AllByRecursion}
 use Rattle.reader.specs.Entries.{Entry, encoded}
 use Rattle.reader.specs.Kinds.{byte_of, body_length}
@@ -9,8 +9,7 @@ use Rattle.reader.specs.Steps.{Step, hands, ends, refuses, reach, stage_after, m
 use Rattle.reader.specs.declared.fault.FileFault.TheVariants.{UnknownKind, Truncated, OutOfPlace, TooLong}
 use Rattle.reader.specs.declared.kind.Kind.{Kind}
 use Rattle.reader.specs.declared.kind.Kind.TheVariants.{FileEnd}
-use Rattle.reader.specs.declared.listing.Ending.{Ending}
-use Rattle.reader.specs.declared.listing.Ending.TheVariants.{End, Refused}
+use Rattle.reader.specs.Endings.{Ending}
 use Rattle.reader.specs.declared.stage.Stage.{Stage}
 
 abbrev pub kinds : List Entry → List Kind
@@ -22,16 +21,16 @@ Whole e = length e.body ≡ body_length e.kind
 
 -- how reading ends after records of kinds `before`, with the bytes `rest` left at offset `at`
 pub data Stops (before : List Kind) (at : ℕ) (rest : List ℕ) : Ending → Type 0 where
-  at_end : has FileEnd before ≡ true → rest ≡ [] → Stops before at rest End
-  past_end : has FileEnd before ≡ true → 0 < length rest → Stops before at rest (Refused (OutOfPlace at))
-  missing : has FileEnd before ≡ false → rest ≡ [] → Stops before at rest (Refused (Truncated at))
-  unknown : (b : ℕ) (after : List ℕ) → has FileEnd before ≡ false → rest ≡ b ∷ after → ((k : Kind) → byte_of k ≢ b) → Stops before at rest (Refused (UnknownKind at))
-  short : (k : Kind) (after : List ℕ) → has FileEnd before ≡ false → rest ≡ byte_of k ∷ after → length after < body_length k → Stops before at rest (Refused (Truncated at))
-  misplaced : (k : Kind) (after : List ℕ) → has FileEnd before ≡ false → rest ≡ byte_of k ∷ after → body_length k ≤ length after → allowed before k ≡ false → Stops before at rest (Refused (OutOfPlace at))
+  at_end : has FileEnd before ≡ true → rest ≡ [] → Stops before at rest (Ok tt)
+  past_end : has FileEnd before ≡ true → 0 < length rest → Stops before at rest (Err (OutOfPlace at))
+  missing : has FileEnd before ≡ false → rest ≡ [] → Stops before at rest (Err (Truncated at))
+  unknown : (b : ℕ) (after : List ℕ) → has FileEnd before ≡ false → rest ≡ b ∷ after → ((k : Kind) → byte_of k ≢ b) → Stops before at rest (Err (UnknownKind at))
+  short : (k : Kind) (after : List ℕ) → has FileEnd before ≡ false → rest ≡ byte_of k ∷ after → length after < body_length k → Stops before at rest (Err (Truncated at))
+  misplaced : (k : Kind) (after : List ℕ) → has FileEnd before ≡ false → rest ≡ byte_of k ∷ after → body_length k ≤ length after → allowed before k ≡ false → Stops before at rest (Err (OutOfPlace at))
 
 -- how the reading of a file ends after the records es, with the bytes `rest` left
 pub data Ends (bytes : List ℕ) (es : List Entry) (rest : List ℕ) : Ending → Type 0 where
-  too_long : max_length < length bytes → es ≡ [] → Ends bytes es rest (Refused TooLong)
+  too_long : max_length < length bytes → es ≡ [] → Ends bytes es rest (Err TooLong)
   stops : {ending : Ending} → length bytes ≤ max_length → Stops (kinds es) (length (flat_map encoded es)) rest ending → Ends bytes es rest ending
 
 -- the file is the records es in order, one after another, and the bytes at which reading ends
@@ -54,5 +53,5 @@ pub record ReadTo (bytes : List ℕ) (es : List Entry) (at : ℕ) (s : Stage) : 
 -- where es were read so far, a step hands out the next record of the file, or it is how reading ends
 abbrev pub Continues : List ℕ → List Entry → ℕ → Stage → Step → Type 0
 Continues bytes es at s (hands e) = ReadTo bytes (es ++ e ∷ []) (at + reach (hands e)) (stage_after s (hands e))
-Continues bytes es at s ends = MadeOf bytes es End
-Continues bytes es at s (refuses f) = MadeOf bytes es (Refused f)
+Continues bytes es at s ends = MadeOf bytes es (Ok tt)
+Continues bytes es at s (refuses f) = MadeOf bytes es (Err f)

@@ -1,6 +1,7 @@
 -- The byte and the body length of every kind of record.
-use Rattle.std.specs.Prelude.{ℕ, cond, List, [], ◌∷◌, Some, None, Option, ◌==◌}
+use Rattle.std.specs.Prelude.{ℕ, cond, List, [], ◌∷◌, Some, None, Option, Result, ◌==◌, ok_or}
 use Rattle.reader.specs.declared.kind.Kind.{Kind}
+use Rattle.reader.specs.declared.kind.UnknownByte.{UnknownByte}
 use Rattle.reader.specs.declared.kind.Kind.TheVariants.{Head, Accepting, Limit, Edge, Guard, SheetEnd, Book, Node, Bound, FileEnd}
 
 -- the byte that begins a record
@@ -40,3 +41,7 @@ kind_among b (k ∷ ks) = cond (b == byte_of k) (Some k) (kind_among b ks)
 -- the kind that begins with byte b
 abbrev pub kind_of : ℕ → Option Kind
 kind_of b = kind_among b all_kinds
+
+-- the same as a result, with a byte that begins no record as the error
+abbrev pub kind_from : ℕ → Result Kind UnknownByte
+kind_from b = ok_or (kind_of b) (record { 0 = b })

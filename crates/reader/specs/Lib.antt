@@ -1,6 +1,7 @@
 pub mod Grounds
 pub mod Kinds
 pub mod Faults
+pub mod Endings
 pub mod Entries
 pub mod Order
 pub mod Stages

@@ -3,7 +3,7 @@ use Rattle.std.specs.Prelude.{◌≡◌, ℕ, ◌+◌, List, [], ◌∷◌, map,
 use Rattle.reader.specs.Entries.{Entry, entry_of, encoded}
 use Rattle.reader.specs.Files.{MadeOf}
 use Rattle.reader.specs.Readings.{reading, sited, sited_of}
-use Rattle.reader.specs.declared.listing.Ending.{Ending}
+use Rattle.reader.specs.Endings.{Ending}
 use Rattle.reader.specs.declared.listing.Placed.{Placed}
 
 abbrev pub entries : List Placed → List Entry

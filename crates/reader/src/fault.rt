@@ -37,9 +37,9 @@ impl FileFault {
         ensures { result ≡ offset_of self }
     {
         match self {
-            FileFault::UnknownKind(offset) => offset,
-            FileFault::Truncated(offset) => offset,
-            FileFault::OutOfPlace(offset) => offset,
+            FileFault::UnknownKind(offset)
+            | FileFault::Truncated(offset)
+            | FileFault::OutOfPlace(offset) => offset,
             FileFault::TooLong => 0,
         }
     }

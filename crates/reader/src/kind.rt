@@ -1,59 +1,58 @@
 // The ten kinds of record, with the byte that begins each and the length of its body.
 ghost use Rattle.std.specs.Prelude.{◌≡◌};
-ghost use Rattle.reader.specs.Kinds.{byte_of, kind_of, body_length};
+ghost use Rattle.reader.specs.Kinds.{byte_of, kind_from, body_length};
 
-#[derive(Clone, Copy, PartialEq, Eq)]
+#[derive(Clone, Copy, PartialEq, Eq, Debug)]
 pub enum Kind {
-    Head,
-    Accepting,
-    Limit,
-    Edge,
-    Guard,
-    SheetEnd,
-    Book,
-    Node,
-    Bound,
-    FileEnd,
+    Head = 0x01,
+    Accepting = 0x02,
+    Limit = 0x03,
+    Edge = 0x04,
+    Guard = 0x05,
+    SheetEnd = 0x06,
+    Book = 0x10,
+    Node = 0x11,
+    Bound = 0x12,
+    FileEnd = 0x1f,
+}
+
+// A byte that begins no record.
+#[derive(Clone, Copy, PartialEq, Eq, Debug)]
+pub struct UnknownByte(pub u8);
+
+impl From<Kind> for u8 {
+    ghost from_gives = { λ kind r. r ≡ byte_of kind };
+
+    // The byte that begins a record of this kind.
+    fn from(kind: Kind) -> u8 {
+        kind as u8
+    }
+}
+
+impl TryFrom<u8> for Kind {
+    type Error = UnknownByte;
+
+    ghost try_from_gives = { λ byte r. r ≡ kind_from byte };
+
+    // The kind that a byte stands for, if any. The bytes stand here again, since a search through a list of the kinds would be no shorter.
+    fn try_from(byte: u8) -> Result<Kind, UnknownByte> {
+        match byte {
+            0x01 => Ok(Kind::Head),
+            0x02 => Ok(Kind::Accepting),
+            0x03 => Ok(Kind::Limit),
+            0x04 => Ok(Kind::Edge),
+            0x05 => Ok(Kind::Guard),
+            0x06 => Ok(Kind::SheetEnd),
+            0x10 => Ok(Kind::Book),
+            0x11 => Ok(Kind::Node),
+            0x12 => Ok(Kind::Bound),
+            0x1f => Ok(Kind::FileEnd),
+            _ => Err(UnknownByte(byte)),
+        }
+    }
 }
 
 impl Kind {
-    // The kind that a byte stands for, if any.
-    pub fn from_byte(byte: u8) -> Option<Kind>
-        ensures { result ≡ kind_of byte }
-    {
-        match byte {
-            0x01 => Some(Kind::Head),
-            0x02 => Some(Kind::Accepting),
-            0x03 => Some(Kind::Limit),
-            0x04 => Some(Kind::Edge),
-            0x05 => Some(Kind::Guard),
-            0x06 => Some(Kind::SheetEnd),
-            0x10 => Some(Kind::Book),
-            0x11 => Some(Kind::Node),
-            0x12 => Some(Kind::Bound),
-            0x1f => Some(Kind::FileEnd),
-            _ => None,
-        }
-    }
-
-    // The byte that begins a record of this kind.
-    pub fn byte(self) -> u8
-        ensures { result ≡ byte_of self }
-    {
-        match self {
-            Kind::Head => 0x01,
-            Kind::Accepting => 0x02,
-            Kind::Limit => 0x03,
-            Kind::Edge => 0x04,
-            Kind::Guard => 0x05,
-            Kind::SheetEnd => 0x06,
-            Kind::Book => 0x10,
-            Kind::Node => 0x11,
-            Kind::Bound => 0x12,
-            Kind::FileEnd => 0x1f,
-        }
-    }
-
     // How many bytes follow the kind byte.
     pub fn body_len(self) -> usize
         ensures { result ≡ body_length self }

@@ -7,13 +7,6 @@ use crate::reader::Reader;
 use crate::record::Record;
 use std::alloc::{AllocError, Global};
 
-#[derive(Clone, Copy, PartialEq, Eq, Debug)]
-pub enum Ending {
-    // The file ended where it should.
-    End,
-    Refused(FileFault),
-}
-
 // A record and the offset of its kind byte.
 #[derive(Clone, Copy)]
 pub struct Placed<'a> {
@@ -24,7 +17,8 @@ pub struct Placed<'a> {
 #[derive(Drop)]
 pub struct Listing<'a> {
     pub records: Vec<Placed<'a>>,
-    pub ending: Ending,
+    // Whether the file ended where it should, or what was refused.
+    pub ending: Result<(), FileFault>,
 }
 
 impl<'a> Listing<'a> {
@@ -36,14 +30,11 @@ impl<'a> Listing<'a> {
         let mut reader = Reader::new(input);
         let ending = loop {
             let offset = reader.offset();
-            let next = match reader.next() {
-                Ok(next) => next,
-                Err(fault) => break Ending::Refused(fault),
-            };
-            let Some(record) = next else {
-                break Ending::End;
-            };
-            records.push(Placed { offset, record })?;
+            match reader.next() {
+                Ok(Some(record)) => records.push(Placed { offset, record })?,
+                Ok(None) => break Ok(()),
+                Err(fault) => break Err(fault),
+            }
         };
         Ok(Listing { records, ending })
     }

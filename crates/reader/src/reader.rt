@@ -67,48 +67,39 @@ impl<'a> Reader<'a> {
         if self.input.len() > MAX_LEN {
             return Err(FileFault::TooLong);
         }
-        due_in(&self.input[self.offset..], self.offset, self.stage)
+        self.due_in(&self.input[self.offset..])
     }
-}
 
-// What the bytes from this offset on give at this stage: a record, with the stage after it, or the end.
-fn due_in<'a>(
-    after: &'a [u8],
-    offset: usize,
-    stage: Stage,
-) -> Result<Option<(Record<'a>, Stage)>, FileFault>
-    ensures { Due stage (step_at stage offset after.now) result }
-{
-    if let Stage::Ended = stage {
-        return if after.is_empty() {
-            Ok(None)
-        } else {
-            Err(FileFault::OutOfPlace(offset))
+    // What the bytes from the reader's offset on give: a record, with the stage after it, or the end.
+    fn due_in(&self, after: &'a [u8]) -> Result<Option<(Record<'a>, Stage)>, FileFault>
+        ensures { Due self.now.stage (step_at self.now.stage self.now.offset after.now) result }
+    {
+        if let Stage::Ended = self.stage {
+            return if after.is_empty() {
+                Ok(None)
+            } else {
+                Err(FileFault::OutOfPlace(self.offset))
+            };
+        }
+        let Some((byte, rest)) = after.split_first() else {
+            return Err(FileFault::Truncated(self.offset));
         };
+        let Ok(kind) = Kind::try_from(*byte) else {
+            return Err(FileFault::UnknownKind(self.offset));
+        };
+        self.whole(kind, rest)
     }
-    let Some((byte, rest)) = after.split_first() else {
-        return Err(FileFault::Truncated(offset));
-    };
-    let Some(kind) = Kind::from_byte(*byte) else {
-        return Err(FileFault::UnknownKind(offset));
-    };
-    whole(kind, rest, offset, stage)
-}
 
-// A record of this kind at this offset and stage, whose body begins `rest`.
-fn whole<'a>(
-    kind: Kind,
-    rest: &'a [u8],
-    offset: usize,
-    stage: Stage,
-) -> Result<Option<(Record<'a>, Stage)>, FileFault>
-    ensures { Due stage (bodied stage offset kind (cut kind rest.now)) result }
-{
-    let Some(record) = Record::cut(kind, rest) else {
-        return Err(FileFault::Truncated(offset));
-    };
-    let Some(next) = stage.after(kind) else {
-        return Err(FileFault::OutOfPlace(offset));
-    };
-    Ok(Some((record, next)))
+    // The record of this kind whose body begins `rest`, with the stage after it.
+    fn whole(&self, kind: Kind, rest: &'a [u8]) -> Result<Option<(Record<'a>, Stage)>, FileFault>
+        ensures { Due self.now.stage (bodied self.now.stage self.now.offset kind (cut kind rest.now)) result }
+    {
+        let Some(record) = Record::cut(kind, rest) else {
+            return Err(FileFault::Truncated(self.offset));
+        };
+        let Some(next) = self.stage.after(kind) else {
+            return Err(FileFault::OutOfPlace(self.offset));
+        };
+        Ok(Some((record, next)))
+    }
 }

@@ -39,6 +39,7 @@ impl Stage {
         self.moved(kind)
     }
 
+    // The same without the promise on orders, which follows from this one.
     fn moved(self, kind: Kind) -> Option<Stage>
         ensures { result ≡ next_stage self kind }
     {

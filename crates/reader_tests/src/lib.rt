@@ -3,7 +3,7 @@
 
 #[cfg(test)]
 mod tests {
-    use reader::{Ending, FileFault, Kind, Listing, Reader};
+    use reader::{FileFault, Kind, Listing, Reader, read_input};
     use std::alloc::Global;
     use std::process::Abort;
     use std::test::Fail;
@@ -25,20 +25,25 @@ mod tests {
 
     const STARTS: [usize; 12] = [0, 4, 6, 12, 16, 21, 22, 25, 30, 36, 41, 47];
 
-    fn ends(rt: &impl Abort, heap: Global, input: &[u8], ending: Ending) -> Result<(), Fail> {
+    fn ends(
+        rt: &impl Abort,
+        heap: Global,
+        input: &[u8],
+        ending: Result<(), FileFault>,
+    ) -> Result<(), Fail> {
         let listing = Listing::of(heap, input)?;
         assert_eq!(rt; listing.ending, ending);
         Ok(())
     }
 
     fn refused(rt: &impl Abort, heap: Global, input: &[u8], fault: FileFault) -> Result<(), Fail> {
-        ends(rt, heap, input, Ending::Refused(fault))
+        ends(rt, heap, input, Err(fault))
     }
 
     #[test]
     fn a_whole_file_gives_each_record_at_its_offset(rt: HostRuntime) -> Result<(), Fail> {
         let listing = Listing::of(rt.alloc(), &EXAMPLE)?;
-        assert_eq!(rt; listing.ending, Ending::End);
+        assert_eq!(rt; listing.ending, Ok(()));
         assert_eq!(rt; listing.records.len(), 12);
         for (placed, start) in listing.records.iter().zip(STARTS.iter()) {
             assert_eq!(rt; placed.offset, *start);
@@ -78,10 +83,10 @@ mod tests {
     ) -> Result<(), Fail> {
         for byte in 0..=255u8 {
             let input = [byte, 0, 0, 0, 0, 0];
-            let fault = match Kind::from_byte(byte) {
-                None => FileFault::UnknownKind(0),
-                Some(Kind::Head) => FileFault::UnknownKind(4),
-                Some(_) => FileFault::OutOfPlace(0),
+            let fault = match Kind::try_from(byte) {
+                Err(_) => FileFault::UnknownKind(0),
+                Ok(Kind::Head) => FileFault::UnknownKind(4),
+                Ok(_) => FileFault::OutOfPlace(0),
             };
             refused(&rt, rt.alloc(), &input, fault)?;
         }
@@ -181,12 +186,7 @@ mod tests {
         rt: HostRuntime,
     ) -> Result<(), Fail> {
         let heap = rt.alloc();
-        ends(
-            &rt,
-            heap,
-            &[0x01, 1, 1, 0, 0x06, 0x10, 0, 0, 0x1f],
-            Ending::End,
-        )?;
+        ends(&rt, heap, &[0x01, 1, 1, 0, 0x06, 0x10, 0, 0, 0x1f], Ok(()))?;
         ends(
             &rt,
             heap,
@@ -194,7 +194,7 @@ mod tests {
                 0x01, 1, 1, 0, 0x04, 0, 0, 0, 0x03, 0, 1, 1, 5, 0, 0x02, 0, 0x05, 1, 0, 0, 0, 0x06,
                 0x10, 0, 0, 0x1f,
             ],
-            Ending::End,
+            Ok(()),
         )
     }
 
@@ -209,9 +209,27 @@ mod tests {
         }
         input.extend_from_slice(&[0x06, 0x10, 0, 0, 0x1f])?;
         assert_eq!(rt; input.len(), 65_535);
-        ends(&rt, heap, input.as_slice(), Ending::End)?;
+        ends(&rt, heap, input.as_slice(), Ok(()))?;
         input.push(0)?;
         refused(&rt, heap, input.as_slice(), FileFault::TooLong)
+    }
+
+    #[test]
+    fn a_source_is_read_whole_or_one_byte_past_the_longest_file(
+        rt: HostRuntime,
+    ) -> Result<(), Fail> {
+        let heap = rt.alloc();
+        let whole = read_input(heap, EXAMPLE.as_slice())?;
+        assert!(rt; whole.as_slice() == EXAMPLE.as_slice());
+        let mut long = Vec::new(heap);
+        for i in 0..70_000u32 {
+            long.push((i % 251) as u8)?;
+        }
+        let front = read_input(heap, long.as_slice())?;
+        long.truncate(65_536);
+        assert_eq!(rt; front.len(), 65_536);
+        assert!(rt; front.as_slice() == long.as_slice());
+        refused(&rt, heap, front.as_slice(), FileFault::TooLong)
     }
 
     #[test]
