@@ -1,6 +1,5 @@
 pub mod Bits
 pub mod Describing
 pub mod Growing
-pub mod Sheets
 pub mod Starting
 pub mod Taking

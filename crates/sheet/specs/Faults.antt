@@ -14,7 +14,7 @@ ground_of OutOfPlace = Some ground.OutOfPlace
 ground_of OutOfRange = Some ground.OutOfRange
 ground_of TooMany = Some ground.TooMany
 ground_of StartOutsideLimit = Some ground.StartOutsideLimit
-ground_of Memory = None
+ground_of (Memory error) = None
 
 abbrev pub layer_of : SheetFault → Option Layer
 layer_of (File fault) = Some layer.File
@@ -22,4 +22,4 @@ layer_of OutOfPlace = Some layer.File
 layer_of OutOfRange = Some layer.Sheet
 layer_of TooMany = Some layer.Sheet
 layer_of StartOutsideLimit = Some layer.Sheet
-layer_of Memory = None
+layer_of (Memory error) = None

@@ -13,6 +13,8 @@ use Rattle.sheet.specs.Taken.{Contents}
 use Rattle.sheet.specs.declared.atom.Atom.{Atom}
 use Rattle.sheet.specs.declared.fault.SheetFault.{SheetFault}
 use Rattle.sheet.specs.declared.fault.SheetFault.TheVariants.{Memory}
+use Rattle.sheet.specs.declared.part.Head.{Head}
+use Rattle.sheet.specs.declared.part.NewEdge.{NewEdge}
 use Rattle.sheet.specs.declared.part.Part.{Part}
 use Rattle.sheet.specs.declared.part.Part.TheVariants as part
 
@@ -24,12 +26,20 @@ refusal_in c e =
     (fits c.automaton.clocks (length c.automaton.locations) e.kind e)
     (room (length c.automaton.edges) c.limit_atoms c.guard_atoms e.kind)
 
+-- the fields of a head record
+abbrev pub head_at : Entry → Head
+head_at e = record { clocks = field e 0; locations = field e 1; start = field e 2 }
+
+-- the fields of an edge record
+abbrev pub edge_at : Entry → NewEdge
+edge_at e = record { source = field e 0; target = field e 1; zeros = field e 2 }
+
 -- what a record of kind k adds to a draft
 abbrev pub part_by : Kind → Entry → Option Part
-part_by kind.Head e = Some (part.Head (field e 0) (field e 1) (field e 2))
+part_by kind.Head e = Some (part.Head (head_at e))
 part_by kind.Accepting e = Some (part.Accepting (field e 0))
 part_by kind.Limit e = Some (part.Limit (field e 0) (atom_at 1 e))
-part_by kind.Edge e = Some (part.Edge (field e 0) (field e 1) (field e 2))
+part_by kind.Edge e = Some (part.Edge (edge_at e))
 part_by kind.Guard e = Some (part.Guard (atom_at 0 e))
 part_by kind.SheetEnd e = None
 part_by kind.Book e = None
@@ -39,10 +49,10 @@ part_by kind.FileEnd e = None
 
 -- the counters are below their bounds where the part raises one
 abbrev pub Room : Contents → Part → Type 0
-Room c (part.Head clocks locations start) = Unit {0}
+Room c (part.Head head) = Unit {0}
 Room c (part.Accepting l) = Unit {0}
 Room c (part.Limit l atom) = c.limit_atoms < 64
-Room c (part.Edge source target zeros) = Unit {0}
+Room c (part.Edge edge) = Unit {0}
 Room c (part.Guard atom) = c.guard_atoms < 256
 
 -- what judging record e answers
@@ -68,9 +78,9 @@ guarded atom (e ∷ f ∷ es) = e ∷ guarded atom (f ∷ es)
 
 -- what a draft holds with one more part
 abbrev pub added : Contents → Part → Contents
-added c (part.Head clocks locations start) = record {
+added c (part.Head head) = record {
   stage = stage.Sheet;
-  automaton = record { clocks = clocks; start = start; locations = replicate locations plain; edges = c.automaton.edges };
+  automaton = record { clocks = head.clocks; start = head.start; locations = replicate head.locations plain; edges = c.automaton.edges };
   limit_atoms = c.limit_atoms;
   guard_atoms = c.guard_atoms;
 }
@@ -86,9 +96,9 @@ added c (part.Limit l atom) = record {
   limit_atoms = c.limit_atoms + 1;
   guard_atoms = c.guard_atoms;
 }
-added c (part.Edge source target zeros) = record {
+added c (part.Edge edge) = record {
   stage = stage.Edges;
-  automaton = record { clocks = c.automaton.clocks; start = c.automaton.start; locations = c.automaton.locations; edges = c.automaton.edges ++ record { source = source; target = target; resets = clocks_named zeros; guard = [] } ∷ [] };
+  automaton = record { clocks = c.automaton.clocks; start = c.automaton.start; locations = c.automaton.locations; edges = c.automaton.edges ++ record { source = edge.source; target = edge.target; resets = clocks_named edge.zeros; guard = [] } ∷ [] };
   limit_atoms = c.limit_atoms;
   guard_atoms = c.guard_atoms;
 }
@@ -102,4 +112,4 @@ added c (part.Guard atom) = record {
 -- what adding a part answers, and what the draft holds afterwards
 abbrev pub Adds : Contents → Part → Result (Unit {0}) SheetFault → Contents → Type 0
 Adds before p (Ok done) after = after ≡ added before p
-Adds before p (Err fault) after = (fault ≡ Memory) × (after ≡ before)
+Adds before p (Err fault) after = (fault ≡ Memory (record {})) × (after ≡ before)

@@ -1,6 +1,6 @@
 -- Whether a draft of some records is ready, and the automaton of the sheet that it is sealed to.
-use Rattle.std.specs.Prelude.{ℕ, ◌<◌, Bool, true, cond, ◌&&◌, List, [], ◌∷◌, is_ok, Ok, Err, Result, ◌==◌, nat_le, nat_lt}
-use Rattle.std.specs.List.{AllByRecursion}
+use Rattle.std.specs.Prelude.{ℕ, ◌<◌, Bool, cond, List, is_ok, Ok, Err, Result, ◌==◌, nat_le, nat_lt}
+use Rattle.std.specs.List.{AllByRecursion, list_all}
 use Rattle.reader.specs.Entries.{Entry}
 use Rattle.reader.specs.Files.{kinds}
 use Rattle.reader.specs.Order.{has}
@@ -25,8 +25,7 @@ compares Greater n c = nat_lt c n
 
 -- every atom holds with all clocks at zero
 abbrev pub hold_at_zero : List Atom → Bool
-hold_at_zero [] = true
-hold_at_zero (x ∷ xs) = compares x.relation 0 x.constant && hold_at_zero xs
+hold_at_zero = list_all (λ x. compares x.relation 0 x.constant)
 
 -- whether a draft of the records es is ready: it has a head, and the limit of the start holds with all clocks at zero
 abbrev pub readiness : List Entry → Result (Unit {0}) SheetFault
@@ -42,7 +41,7 @@ Starts a (Err StartOutsideLimit) = (k : ℕ) → 0 < k → AllByRecursion (Holds
 Starts a (Err OutOfPlace) = Unit {0}
 Starts a (Err OutOfRange) = Unit {0}
 Starts a (Err TooMany) = Unit {0}
-Starts a (Err Memory) = Unit {0}
+Starts a (Err (Memory error)) = Unit {0}
 Starts a (Err (File fault)) = Unit {0}
 
 -- the automaton of the sheet that is sealed from the records es

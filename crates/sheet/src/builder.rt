@@ -1,5 +1,5 @@
 // What a draft is built of: the sheet so far, and what decides which record may come next.
-ghost use Rattle.std.specs.Prelude.{◌≡◌, ◌^◌, ◌<◌, true, false, length, MatchOption, nat_lt};
+ghost use Rattle.std.specs.Prelude.{◌≡◌, ◌^◌, ◌<◌, true, false, length, MatchResult, nat_lt};
 ghost use Rattle.reader.specs.Entries.{entry_of};
 ghost use Rattle.sheet.specs.Fields.{atom_of};
 ghost use Rattle.sheet.specs.Judged.{atom_fits};
@@ -11,7 +11,7 @@ use crate::atom::{Atom, Relation};
 use crate::edge::Edge;
 use crate::fault::SheetFault;
 use crate::grow::{accept, named_clocks, plain_locations, push_guard, push_limit};
-use crate::part::Part;
+use crate::part::{Head, NewEdge, Part};
 use crate::sheet::Sheet;
 use reader::{Record, Stage};
 use std::alloc::Global;
@@ -58,59 +58,55 @@ impl Builder {
     pub(crate) fn judge(&self, record: Record<'_>) -> Result<Part, SheetFault>
         ensures { Judges (built self.now) (entry_of «record».entry) result }
     {
-        let stage = self.stage.after(record.kind());
         match record {
             Record::SheetEnd
             | Record::Book(_)
             | Record::Node(_)
             | Record::Bound(_)
             | Record::FileEnd => Err(SheetFault::OutOfPlace),
-            _ if stage.is_none() => Err(SheetFault::OutOfPlace),
+            _ if self.stage.after(record.kind()).is_none() => Err(SheetFault::OutOfPlace),
             Record::Head(&[clocks, locations, start])
+                // `contains` would borrow what the pattern binds, of which a guard gets no proof.
                 if 1 <= clocks
                     && clocks <= MAX_CLOCKS
                     && locations <= MAX_LOCATIONS
                     && start < locations => {
-                Ok(Part::Head {
+                Ok(Part::Head(Head {
                     clocks,
                     locations,
                     start,
-                })
+                }))
             }
             Record::Accepting(&[location]) if self.has_location(location) => Ok(Part::Accepting {
                 location,
             }),
             Record::Limit(&[location, clock, relation, low, high]) if self.has_location(location) =>
                 {
-                    match self.atom(clock, relation, u16::from_le_bytes([low, high])) {
-                        Some(atom) if self.limit_atoms < MAX_LIMIT_ATOMS => Ok(Part::Limit {
-                            location,
-                            atom,
-                        }),
-                        Some(_) => Err(SheetFault::TooMany),
-                        None => Err(SheetFault::OutOfRange),
+                    let atom = self.atom(clock, relation, u16::from_le_bytes([low, high]))?;
+                    if self.limit_atoms >= MAX_LIMIT_ATOMS {
+                        return Err(SheetFault::TooMany);
                     }
+                    Ok(Part::Limit { location, atom })
                 }
             Record::Edge(&[source, target, zeros])
                 if self.has_location(source)
                     && self.has_location(target)
                     && self.has_clocks(zeros) => {
-                if self.has_room_for_edge() {
-                    Ok(Part::Edge {
-                        source,
-                        target,
-                        zeros,
-                    })
-                } else {
-                    Err(SheetFault::TooMany)
+                if self.sheet.edges.len() >= MAX_EDGES {
+                    return Err(SheetFault::TooMany);
                 }
+                Ok(Part::Edge(NewEdge {
+                    source,
+                    target,
+                    zeros,
+                }))
             }
             Record::Guard(&[clock, relation, low, high]) => {
-                match self.atom(clock, relation, u16::from_le_bytes([low, high])) {
-                    Some(atom) if self.guard_atoms < MAX_GUARD_ATOMS => Ok(Part::Guard { atom }),
-                    Some(_) => Err(SheetFault::TooMany),
-                    None => Err(SheetFault::OutOfRange),
+                let atom = self.atom(clock, relation, u16::from_le_bytes([low, high]))?;
+                if self.guard_atoms >= MAX_GUARD_ATOMS {
+                    return Err(SheetFault::TooMany);
                 }
+                Ok(Part::Guard { atom })
             }
             Record::Head(_) | Record::Accepting(_) | Record::Limit(_) | Record::Edge(_) => Err(
                 SheetFault::OutOfRange,
@@ -124,31 +120,23 @@ impl Builder {
         ensures { Adds (built self.old) part result (built self.new) }
     {
         match part {
-            Part::Head {
-                clocks,
-                locations,
-                start,
-            } => self.add_head(clocks, locations, start),
+            Part::Head(head) => self.add_head(head),
             Part::Accepting { location } => {
                 accept(&mut self.sheet.locations, location);
                 Ok(())
             }
             Part::Limit { location, atom } => self.add_limit(location, atom),
-            Part::Edge {
-                source,
-                target,
-                zeros,
-            } => self.add_edge(source, target, zeros),
+            Part::Edge(edge) => self.add_edge(edge),
             Part::Guard { atom } => self.add_guard(atom),
         }
     }
 
-    fn add_head(&mut self, clocks: u8, locations: u8, start: u8) -> Result<(), SheetFault>
-        ensures { Adds (built self.old) (head_part clocks locations start) result (built self.new) }
+    fn add_head(&mut self, head: Head) -> Result<(), SheetFault>
+        ensures { Adds (built self.old) (head_part head) result (built self.new) }
     {
-        self.sheet.locations = plain_locations(self.heap, locations)?;
-        self.sheet.clocks = clocks;
-        self.sheet.start = start;
+        self.sheet.locations = plain_locations(self.heap, head.locations)?;
+        self.sheet.clocks = head.clocks;
+        self.sheet.start = head.start;
         self.stage = Stage::Sheet;
         Ok(())
     }
@@ -162,16 +150,15 @@ impl Builder {
         Ok(())
     }
 
-    fn add_edge(&mut self, source: u8, target: u8, zeros: u8) -> Result<(), SheetFault>
-        ensures { Adds (built self.old) (edge_part source target zeros) result (built self.new) }
+    fn add_edge(&mut self, edge: NewEdge) -> Result<(), SheetFault>
+        ensures { Adds (built self.old) (edge_part edge) result (built self.new) }
     {
-        let resets = named_clocks(self.heap, zeros)?;
-        let guard = Vec::new(self.heap);
+        let resets = named_clocks(self.heap, edge.zeros)?;
         self.sheet.edges.push(Edge {
-            source,
-            target,
+            source: edge.source,
+            target: edge.target,
             resets,
-            guard,
+            guard: Vec::new(self.heap),
         })?;
         self.stage = Stage::Edges;
         Ok(())
@@ -186,27 +173,20 @@ impl Builder {
         Ok(())
     }
 
-    // The atom of these fields, if each is in range.
-    fn atom(&self, clock: u8, relation: u8, constant: u16) -> Option<Atom>
-        ensures { MatchOption result (atom_fits (built self.now).automaton.clocks clock relation constant ≡ false) (λ atom. (atom_fits (built self.now).automaton.clocks clock relation constant ≡ true) × (atom ≡ atom_of clock relation constant)) }
+    // The atom of these fields, each of which must be in range. A struct of the three would be made for this call alone.
+    fn atom(&self, clock: u8, relation: u8, constant: u16) -> Result<Atom, SheetFault>
+        ensures { MatchResult result (λ atom. (atom_fits (built self.now).automaton.clocks clock relation constant ≡ true) × (atom ≡ atom_of clock relation constant)) (λ fault. (atom_fits (built self.now).automaton.clocks clock relation constant ≡ false) × (fault ≡ SheetFault.OutOfRange)) }
     {
-        match Relation::from_number(relation) {
-            Some(relation)
-                if 1 <= clock && clock <= self.sheet.clocks && constant <= MAX_CONSTANT => {
-                Some(Atom {
-                    clock,
-                    relation,
-                    constant,
-                })
-            }
-            _ => None,
+        let relation = Relation::try_from(relation)?;
+        if (1..=self.sheet.clocks).contains(&clock) && constant <= MAX_CONSTANT {
+            Ok(Atom {
+                clock,
+                relation,
+                constant,
+            })
+        } else {
+            Err(SheetFault::OutOfRange)
         }
-    }
-
-    fn has_room_for_edge(&self) -> bool
-        ensures { result ≡ nat_lt (length (built self.now).automaton.edges) 128 }
-    {
-        self.sheet.edges.len() < MAX_EDGES
     }
 
     fn has_location(&self, location: u8) -> bool
@@ -216,12 +196,10 @@ impl Builder {
     }
 
     // Whether every bit of `zeros` stands for a clock of the sheet.
+    #[tactic(auto, using(crate::proofs::Bits::shifted_out))]
     fn has_clocks(&self, zeros: u8) -> bool
         ensures { result ≡ nat_lt zeros (2 ^ (built self.now).automaton.clocks) }
     {
-        match zeros.checked_shr(u32::from(self.sheet.clocks)) {
-            Some(rest) => rest == 0,
-            None => true,
-        }
+        zeros.checked_shr(u32::from(self.sheet.clocks)).unwrap_or(0) == 0
     }
 }

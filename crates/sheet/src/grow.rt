@@ -13,27 +13,16 @@ use std::alloc::{AllocError, AllocFailed, Global};
 pub(crate) fn plain_locations(heap: Global, count: u8) -> Result<Vec<Location>, AllocError>
     ensures { IfOk result (λ v. map location_of v.items ≡ replicate count plain) }
 {
-    let mut locations = Vec::new(heap);
-    for _ in 0..count {
-        locations.push(Location {
-            accepting: false,
-            limit: Vec::new(heap),
-        })?;
-    }
-    Ok(locations)
+    (0..count).map(|_| Location::plain(heap)).collect(heap)
 }
 
 // The clocks that the bits of a byte stand for, in ascending order.
 pub(crate) fn named_clocks(heap: Global, byte: u8) -> Result<Vec<u8>, AllocError>
     ensures { IfOk result (λ v. v.items ≡ clocks_named byte) }
 {
-    let mut clocks = Vec::new(heap);
-    for bit in 0u8..8 {
-        if (byte >> bit) % 2 == 1 {
-            clocks.push(bit + 1)?;
-        }
-    }
-    Ok(clocks)
+    (1..9)
+        .filter(|clock| (byte >> (clock - 1)) % 2 == 1)
+        .collect(heap)
 }
 
 // Makes a location accepting.
@@ -53,18 +42,18 @@ pub(crate) fn push_limit(
 ) -> Result<(), AllocFailed<Atom>>
     ensures { map location_of locations.new.items ≡ (if is_ok result then with_location (limited atom) (map location_of locations.old.items) number else map location_of locations.old.items) }
 {
-    match locations.get_mut(usize::from(number)) {
-        Some(location) => location.limit.push(atom),
-        None => Ok(()),
-    }
+    let Some(location) = locations.get_mut(usize::from(number)) else {
+        return Ok(());
+    };
+    location.limit.push(atom)
 }
 
 // Adds an atom to the guard of the last edge.
 pub(crate) fn push_guard(edges: &mut Vec<Edge>, atom: Atom) -> Result<(), AllocFailed<Atom>>
     ensures { map edge_of edges.new.items ≡ (if is_ok result then guarded atom (map edge_of edges.old.items) else map edge_of edges.old.items) }
 {
-    match edges.last_mut() {
-        Some(edge) => edge.guard.push(atom),
-        None => Ok(()),
-    }
+    let Some(edge) = edges.last_mut() else {
+        return Ok(());
+    };
+    edge.guard.push(atom)
 }

@@ -4,14 +4,13 @@
 mod atom;
 mod builder;
 mod draft;
-mod drafting;
 mod edge;
 mod fault;
 mod grow;
 mod part;
 mod sheet;
 
-pub use atom::{Atom, Relation};
+pub use atom::{Atom, Relation, UnknownRelation};
 pub use draft::Draft;
 pub use edge::Edge;
 pub use fault::SheetFault;

@@ -14,6 +14,18 @@ pub struct Location {
     pub(crate) limit: Vec<Atom>,
 }
 
+impl Location {
+    // Without a limit, and not accepting.
+    pub(crate) fn plain(heap: Global) -> Location
+        ensures { location_of result ≡ plain }
+    {
+        Location {
+            accepting: false,
+            limit: Vec::new(heap),
+        }
+    }
+}
+
 #[derive(Drop)]
 pub struct Sheet {
     pub(crate) clocks: u8,
@@ -58,20 +70,16 @@ impl Sheet {
     pub fn is_accepting(&self, number: u8) -> bool
         ensures { result ≡ (location (automaton_of self.now) number).accepting }
     {
-        match self.location(number) {
-            Some(location) => location.accepting,
-            None => false,
-        }
+        self.location(number)
+            .is_some_and(|location| location.accepting)
     }
 
     // The limit of a location; one past the last has none.
     pub fn limit(&self, number: u8) -> &[Atom]
         ensures { result.now ≡ (location (automaton_of self.now) number).limit }
     {
-        match self.location(number) {
-            Some(location) => location.limit.as_slice(),
-            None => &[],
-        }
+        self.location(number)
+            .map_or(&[], |location| location.limit.as_slice())
     }
 
     fn location(&self, number: u8) -> Option<&Location>

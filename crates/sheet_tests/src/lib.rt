@@ -29,6 +29,7 @@ pub(crate) fn example(heap: Global) -> Result<Sheet, SheetFault>
 pub(crate) fn draft_of_file(heap: Global, bytes: &[u8]) -> Result<Draft, SheetFault> {
     let mut draft = Draft::new(heap);
     let mut reader = Reader::new(bytes);
+    // A file has fewer records than bytes.
     for _ in 0..bytes.len() {
         match reader.next()? {
             None | Some(Record::SheetEnd) => break,
@@ -41,11 +42,12 @@ pub(crate) fn draft_of_file(heap: Global, bytes: &[u8]) -> Result<Draft, SheetFa
 // Gives a draft each of the records that the bytes hold, in any order, up to the first refusal.
 pub(crate) fn take_all(draft: &mut Draft, bytes: &[u8]) -> Result<(), SheetFault> {
     let mut rest = bytes;
+    // Each record has a byte at least.
     for _ in 0..bytes.len() {
         let Some((byte, after)) = rest.split_first() else {
             break;
         };
-        let Some(kind) = Kind::from_byte(*byte) else {
+        let Ok(kind) = Kind::try_from(*byte) else {
             break;
         };
         let Some(record) = Record::cut(kind, after) else {
@@ -105,8 +107,8 @@ pub(crate) fn number(answer: Result<(), SheetFault>) -> u8 {
     match answer {
         Ok(()) => 0,
         Err(fault) => match fault.ground() {
-            Some(ground) => ground.number(),
-            None => 255,
+            Ok(reason) => u8::from(reason),
+            Err(_) => 255,
         },
     }
 }

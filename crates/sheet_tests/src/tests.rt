@@ -73,7 +73,7 @@ fn refusal_of_file(heap: Global, bytes: &[u8]) -> (u8, char) {
     match draft_of_file(heap, bytes) {
         Ok(_) => (0, '-'),
         Err(fault) => match (fault.ground(), fault.layer()) {
-            (Some(ground), Some(layer)) => (ground.number(), layer.letter()),
+            (Ok(reason), Ok(layer)) => (u8::from(reason), char::from(layer)),
             _ => (255, '-'),
         },
     }
