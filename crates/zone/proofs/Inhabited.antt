@@ -2,6 +2,7 @@
 use Rattle.std.proofs.Common.{◌≡◌, ℕ, ◌+◌, ◌-◌, ◌*◌, ◌<◌, ◌≤◌, true, false, T, ℤ, pos, negsuc, sym, refl, subst, arith}
 use borrow.Author.Differences.{up, down, sum_is_lem}
 use Rattle.std.proofs.lemmas.Int.{ints}
+use Rattle.std.proofs.lemmas.List.Sums.{AllPass-from_list_all}
 use Rattle.std.proofs.lemmas.Bool.{lt-ltb, not-false}
 use Rattle.zone.specs.declared.bound.Bound.{Bound}
 use Rattle.zone.specs.declared.bound.Bound.TheVariants.{Free, AtMost, Below}
@@ -11,8 +12,7 @@ use Rattle.zone.specs.BoxCalls.{Holds}
 use Rattle.zone.specs.BoxRows.{range_at, proper, empty_row}
 use Rattle.zone.specs.Ranges.{inhabited, Lies}
 use Rattle.zone.specs.Valuations.{Valuation}
-use Rattle.zone.specs.BoxRowsLemmas.{fits_floor, proper_countable, proper_fits}
-use Rattle.zone.specs.Every.{every_at}
+use Rattle.zone.specs.BoxRowsLemmas.{fits_floor, proper_length, proper_countable, proper_fits}
 use Rattle.zone.specs.Order.{least_in, strict_in}
 use Rattle.zone.specs.Rows.{countable_high}
 use Rattle.zone.specs.Truth.{so}
@@ -51,7 +51,7 @@ module _ (r : BoxRow) (h : proper r ≡ true) (e : empty_row r ≡ false) where
 
   range_inhabited : (x : ℕ) → x < 6 → inhabited (range_at r.ranges x) ≡ true
   unfolding empty_row
-  range_inhabited x l = every_at (λ k. inhabited (range_at r.ranges k)) 6 (not-false _ e) x l
+  range_inhabited x l = AllPass-from_list_all inhabited r.ranges (not-false _ e) x (record { lower = Free; upper = Free }) (omega (arith, proper_length r h))
 
   first_lies : (x : ℕ) → x < r.clocks → Lies 2 (range_at r.ranges x) (first (x + 1))
   unfolding first

@@ -1,3 +1,4 @@
 mod PathSums
 mod Promises
 mod Inhabited
+pub mod FromFn

@@ -1,15 +1,14 @@
 -- The calls of the box kind, and the meaning of its zones.
-use Rattle.std.specs.Prelude.{◌≡◌, ℕ, ◌+◌, ◌<◌, true, false, cond, ◌&&◌, Ok, Err, Result, nat_le, refl}
+use Rattle.std.specs.Prelude.{◌≡◌, ℕ, ◌+◌, ◌<◌, true, false, Ok, Result, refl}
 use Rattle.zone.specs.declared.boxed.BoxZone.{BoxZone}
 use Rattle.zone.specs.declared.boxed.row.BoxRow.{BoxRow}
 use Rattle.zone.specs.declared.constraint.Constraint.{Constraint}
 use Rattle.zone.specs.declared.fault.ZoneFault.{ZoneFault}
-use Rattle.zone.specs.declared.fault.ZoneFault.TheVariants.{OutOfRange}
 use Rattle.zone.specs.Bounds.{bound_of}
 use Rattle.zone.specs.BoxRows.{range_at, ranges_row, proper, empty_row, void_row, whole_row, elapsed_row, reset_row, tightened_row, within_rows, zero_row}
 use Rattle.zone.specs.Calls.{Calls}
 use Rattle.zone.specs.Checked.{zone_of}
-use Rattle.zone.specs.Judging.{judged, and_then}
+use Rattle.zone.specs.Judging.{judged, judged_clock, and_then}
 use Rattle.zone.specs.Ranges.{Lies}
 use Rattle.zone.specs.Tests.{every}
 use Rattle.zone.specs.Valuations.{Valuation}
@@ -37,7 +36,7 @@ constrained z c = and_then (judged z.row.clocks false c) (λ _. Ok (of_row (tigh
 
 -- with one of the clocks 1 to n set to zero
 unfoldable pub reset : BoxZone → ℕ → Result BoxZone ZoneFault
-reset z x = cond (nat_le 1 x && nat_le x z.row.clocks) (Ok (of_row (reset_row z.row x))) (Err OutOfRange)
+reset z x = and_then (judged_clock z.row.clocks x) (λ _. Ok (of_row (reset_row z.row x)))
 
 -- all of these
 abbrev pub box_calls : Calls BoxZone BoxRow

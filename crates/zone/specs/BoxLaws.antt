@@ -4,6 +4,9 @@ use Rattle.std.proofs.Math.Path.{refl}
 use Rattle.std.proofs.Common.{sym, ◌∙◌, ap, subst, inl, inr, ⊎_elim, arith}
 use Rattle.std.proofs.lemmas.Bool.{cases_Bool, and_parts, or_cases, not-true, leb-true, ltb-true, eqb-true, eqb-false, ne_eqb, cond_both, true≢false, eq-eqb}
 use Rattle.std.proofs.lemmas.Bool.Decides.{nat_tests}
+use Rattle.std.specs.List.{list_all, zip}
+use Rattle.std.proofs.lemmas.List.Sums.{AllPass-from_list_all}
+use Rattle.zone.specs.declared.bound.Bound.TheVariants.{Free}
 use Rattle.zone.specs.declared.boxed.range.Range.{Range}
 use Rattle.zone.specs.declared.boxed.row.BoxRow.{BoxRow}
 use Rattle.zone.specs.declared.boxed.BoxZone.{BoxZone}
@@ -15,11 +18,10 @@ use Rattle.zone.specs.BoxCalls.{void, of_row, Holds, constrained, reset as reset
 use Rattle.zone.specs.BoxRows.{range_at, ranges_row, proper, empty_row, void_row, whole_row, elapsed_row, reset_row, tightened_row, within_rows, zero_row}
 use Rattle.zone.specs.Laws.{Laws, countable, in_range, difference}
 use Rattle.zone.specs.Ranges.{whole_range, inhabited, contains, has_zero, elapsed, reset, tightened, Lies}
-use Rattle.zone.specs.Tests.{every}
 use Rattle.zone.specs.Valuations.{Valuation, Meets, reading, waited, zeroed, origin}
-use Rattle.zone.specs.BoxRowsLemmas.{fits_past, proper_countable, proper_fits, proper_whole, proper_elapsed, proper_reset, proper_tightened, ranges_at, whole_is, whole_void, elapsed_is, reset_is, tightened_is, elapsed_count, reset_count, tightened_count}
+use Rattle.zone.specs.BoxRowsLemmas.{fits_past, proper_length, proper_countable, proper_fits, proper_whole, proper_elapsed, proper_reset, proper_tightened, ranges_at, whole_is, whole_void, changed_is, changed_count}
 use Rattle.zone.specs.BoxZones.{row_of, row_back, row_of_none, void_is, constrained_out, constrained_kind, constrained_in}
-use Rattle.zone.specs.Every.{every_at, every_some}
+use Rattle.zone.specs.Every.{some_fails, all_at_zip}
 use Rattle.zone.specs.InRange.{range_i, range_j, range_size}
 use Rattle.zone.specs.Order.{obeys_plus, obeys_weaker, obeys_itself, obeys_zero, obeys_later, tighter_of}
 use Rattle.zone.specs.Readings.{meets_obeys}
@@ -58,7 +60,7 @@ unfolding void void_row ranges_row
 void_clocks = refl
 
 pub void_empty : empty_row void.row ≡ true
-unfolding void void_row ranges_row empty_row every
+unfolding void void_row ranges_row empty_row
 void_empty = refl
 
 -- ---- an empty row holds nothing
@@ -74,7 +76,8 @@ module _ (r : BoxRow) (h : proper r ≡ true) (k : ℕ) (v : Valuation) (l : 0 <
   row_full : empty_row r ≡ true → ⊥
   unfolding empty_row
   row_full e =
-      let (x, m, f) = every_some (λ x. inhabited (range_at r.ranges x)) 6 (not-true _ e) in
+      let (x, i, f) = some_fails inhabited (record { lower = Free; upper = Free }) r.ranges (not-true _ e) in
+      let m : x < 6 = omega (arith, proper_length r h) in
       none_empty x m f (nat_lt x r.clocks) refl
 
   pub not_empty : empty_row r ≡ false
@@ -98,7 +101,7 @@ constrained_gives z y c e = go (in_range z.row.clocks c) refl (difference c) ref
         (h, d, ap (λ (x : BoxZone). x.row) (sym w) ∙ row_of (tightened_row z.row c.i c.j (bound_of c)) (proper_tightened z.row z.fitting c.i c.j (bound_of c) (range_i z.row.clocks c h) (range_j z.row.clocks c h) (range_size z.row.clocks c h)))
 
 pub constrained_clocks : (z y : BoxZone) (c : Constraint) → constrained z c ≡ Ok y → y.row.clocks ≡ z.row.clocks
-constrained_clocks z y c e = ap (λ (r : BoxRow). r.clocks) (constrained_gives z y c e).2 ∙ tightened_count z.row c.i c.j (bound_of c)
+constrained_clocks z y c e = ap (λ (r : BoxRow). r.clocks) (constrained_gives z y c e).2 ∙ changed_count (tightened c.i c.j (bound_of c)) z.row
 
 -- a box is never too wide
 pub constrained_wide : (z : BoxZone) (c : Constraint) (e : ZoneFault) → in_range z.row.clocks c ≡ true → difference c ≡ false → constrained z c ≡ Err e → e ≡ TooWide
@@ -127,7 +130,7 @@ module _ (k : ℕ) (v : Valuation) (c : Constraint) (m : Meets k v c) (d : diffe
       let j : c.j ≡ 0 = other_zero c.i c.j d (omega arith) in
       subst (λ (y : ℕ). Obeys k (bound_of c) y 0) (ap (reading v) i ∙ reading_one x) (subst (λ (y : ℕ). Obeys k (bound_of c) (reading v c.i) y) (ap (reading v) j) (meets_obeys k v c m))
 
-  lies_tightened : (x : ℕ) (g : Range) → Lies k g (v (x + 1)) → Lies k (tightened c.i c.j (bound_of c) x g) (v (x + 1))
+  lies_tightened : (x : ℕ) (g : Range) → Lies k g (v (x + 1)) → Lies k (tightened c.i c.j (bound_of c) (x + 1) g) (v (x + 1))
   lies_tightened x g (a, b) = (
     cond_both (c.j == x + 1) (tighter g.lower (bound_of c)) g.lower (λ y. Obeys k y 0 (v (x + 1))) (λ e. tighter_of (λ y. Obeys k y 0 (v (x + 1))) g.lower (bound_of c) a (lower_obeyed x e)) (λ _. a),
     cond_both (c.i == x + 1) (tighter g.upper (bound_of c)) g.upper (λ y. Obeys k y (v (x + 1)) 0) (λ e. tighter_of (λ y. Obeys k y (v (x + 1)) 0) g.upper (bound_of c) b (upper_obeyed x e)) (λ _. b),
@@ -136,19 +139,19 @@ module _ (k : ℕ) (v : Valuation) (c : Constraint) (m : Meets k v c) (d : diffe
 pub constrained_holds : (z y : BoxZone) (c : Constraint) (k : ℕ) (v : Valuation) → constrained z c ≡ Ok y → 0 < k → Holds z.row k v → Meets k v c → Holds y.row k v
 constrained_holds z y c k v e l h m =
     let g = constrained_gives z y c e in
-    rw (g.2, tightened_is z.row (not_empty z.row z.fitting k v l h) c.i c.j (bound_of c)) (holds_ranges z.row.clocks k (λ x. tightened c.i c.j (bound_of c) x (range_at z.row.ranges x)) v (six z) (λ x i. lies_tightened k v c m g.1 x (range_at z.row.ranges x) (lies z.row k v h x i)))
+    rw (g.2, changed_is (tightened c.i c.j (bound_of c)) z.row (not_empty z.row z.fitting k v l h)) (holds_ranges z.row.clocks k (λ x. tightened c.i c.j (bound_of c) (x + 1) (range_at z.row.ranges x)) v (six z) (λ x i. lies_tightened k v c m g.1 x (range_at z.row.ranges x) (lies z.row k v h x i)))
 
 -- ---- time
 
 pub elapsed_clocks : (z : BoxZone) → (of_row (elapsed_row z.row)).row.clocks ≡ z.row.clocks
-elapsed_clocks z = ap (λ (r : BoxRow). r.clocks) (row_of (elapsed_row z.row) (proper_elapsed z.row z.fitting)) ∙ elapsed_count z.row
+elapsed_clocks z = ap (λ (r : BoxRow). r.clocks) (row_of (elapsed_row z.row) (proper_elapsed z.row z.fitting)) ∙ changed_count (λ _. elapsed) z.row
 
 lies_elapsed : (k x d : ℕ) (g : Range) → Lies k g x → Lies k (elapsed g) (x + d)
 lies_elapsed k x d g (a, b) = (obeys_later k g.lower 0 x d a, tt)
 
 pub elapsed_holds : (z : BoxZone) (k d : ℕ) (v : Valuation) → 0 < k → Holds z.row k v → Holds (of_row (elapsed_row z.row)).row k (waited v d)
 elapsed_holds z k d v l h =
-    holds_of (elapsed_row z.row) k (waited v d) (proper_elapsed z.row z.fitting) (rw (elapsed_is z.row (not_empty z.row z.fitting k v l h)) (holds_ranges z.row.clocks k (λ x. elapsed (range_at z.row.ranges x)) (waited v d) (six z) (λ x i. lies_elapsed k (v (x + 1)) d (range_at z.row.ranges x) (lies z.row k v h x i))))
+    holds_of (elapsed_row z.row) k (waited v d) (proper_elapsed z.row z.fitting) (rw (changed_is (λ _. elapsed) z.row (not_empty z.row z.fitting k v l h)) (holds_ranges z.row.clocks k (λ x. elapsed (range_at z.row.ranges x)) (waited v d) (six z) (λ x i. lies_elapsed k (v (x + 1)) d (range_at z.row.ranges x) (lies z.row k v h x i))))
 
 -- ---- a clock set to zero
 
@@ -175,15 +178,15 @@ reset_gives z y x e = go (nat_le 1 x && nat_le x z.row.clocks) refl
     go false h = let g = reset_range z x h in let v : ◌≡◌ {A = ℕ} 0 1 = cc in absurd (omega arith)
 
 pub reset_clocks : (z y : BoxZone) (x : ℕ) → reset_zone z x ≡ Ok y → y.row.clocks ≡ z.row.clocks
-reset_clocks z y x e = ap (λ (r : BoxRow). r.clocks) (reset_gives z y x e) ∙ reset_count z.row x
+reset_clocks z y x e = ap (λ (r : BoxRow). r.clocks) (reset_gives z y x e) ∙ changed_count (reset x) z.row
 
-lies_reset : (k x w : ℕ) (v : Valuation) (g : Range) → Lies k g (v (w + 1)) → (t : Bool) → (x == w + 1) ≡ t → Lies k (reset x w g) (zeroed v x (w + 1))
+lies_reset : (k x w : ℕ) (v : Valuation) (g : Range) → Lies k g (v (w + 1)) → (t : Bool) → (x == w + 1) ≡ t → Lies k (reset x (w + 1) g) (zeroed v x (w + 1))
 lies_reset k x w v g h true e = let f : w + 1 ≡ x = sym (eqb-true x (w + 1) e) in rw (e, eq-eqb (w + 1) x f) (omega arith, omega arith)
 lies_reset k x w v g h false e = rw (e, ne_eqb (w + 1) x (λ f. eqb-false x (w + 1) e (sym f))) h
 
 pub reset_holds : (z y : BoxZone) (x k : ℕ) (v : Valuation) → reset_zone z x ≡ Ok y → 0 < k → Holds z.row k v → Holds y.row k (zeroed v x)
 reset_holds z y x k v e l h =
-    rw (reset_gives z y x e, reset_is z.row (not_empty z.row z.fitting k v l h) x) (holds_ranges z.row.clocks k (λ w. reset x w (range_at z.row.ranges w)) (zeroed v x) (six z) (λ w i. lies_reset k x w v (range_at z.row.ranges w) (lies z.row k v h w i) (x == w + 1) refl))
+    rw (reset_gives z y x e, changed_is (reset x) z.row (not_empty z.row z.fitting k v l h)) (holds_ranges z.row.clocks k (λ w. reset x (w + 1) (range_at z.row.ranges w)) (zeroed v x) (six z) (λ w i. lies_reset k x w v (range_at z.row.ranges w) (lies z.row k v h w i) (x == w + 1) refl))
 
 -- ---- answers
 
@@ -198,20 +201,20 @@ lies_within k g h x l e (a, b) =
 
 pub within_sound : (y z : BoxZone) (k : ℕ) (v : Valuation) → within_rows y.row z.row ≡ true → 0 < k → Holds y.row k v → Holds z.row k v
 unfolding within_rows Holds
-within_sound y z k v e l h = go (or_cases (empty_row y.row) (every (λ x. contains (range_at z.row.ranges x) (range_at y.row.ranges x)) 6) (and_parts _ _ e).1)
+within_sound y z k v e l h = go (or_cases (empty_row y.row) (list_all (λ p. contains p.1 p.0) (zip y.row.ranges z.row.ranges)) (and_parts _ _ e).1)
   where
-    go : (empty_row y.row ≡ true) ⊎ (every (λ x. contains (range_at z.row.ranges x) (range_at y.row.ranges x)) 6 ≡ true) → Holds z.row k v
+    go : (empty_row y.row ≡ true) ⊎ (list_all (λ p. contains p.1 p.0) (zip y.row.ranges z.row.ranges) ≡ true) → Holds z.row k v
     go (inl f) = absurd (empty_sound y k v f l h)
     go (inr f) = λ x i.
         let s = six z in
         let n : y.row.clocks ≡ z.row.clocks = within_clocks y z e in
-        lies_within k (range_at y.row.ranges x) (range_at z.row.ranges x) (v (x + 1)) l (every_at (λ x. contains (range_at z.row.ranges x) (range_at y.row.ranges x)) 6 f x (omega arith)) (h x (omega arith))
+        lies_within k (range_at y.row.ranges x) (range_at z.row.ranges x) (v (x + 1)) l (all_at_zip (λ g o. contains o g) y.row.ranges z.row.ranges f x (record { lower = Free; upper = Free }) (omega (arith, proper_length y.row y.fitting)) (omega (arith, proper_length z.row z.fitting))) (h x (omega arith))
 
 pub zero_sound : (z : BoxZone) (k : ℕ) → zero_row z.row ≡ true → 0 < k → Holds z.row k origin
 unfolding zero_row Holds
 zero_sound z k e l x i =
     let s = six z in
-    let a = every_at (λ x. has_zero (range_at z.row.ranges x)) 6 e x (omega arith) in
+    let a = AllPass-from_list_all has_zero z.row.ranges e x (record { lower = Free; upper = Free }) (omega (arith, proper_length z.row z.fitting)) in
     let c = and_parts (implies nil (range_at z.row.ranges x).lower) (implies nil (range_at z.row.ranges x).upper) a in
     (obeys_zero k (range_at z.row.ranges x).lower 0 l (so _ c.0), obeys_zero k (range_at z.row.ranges x).upper 0 l (so _ c.1))
 

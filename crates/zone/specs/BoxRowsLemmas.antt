@@ -1,6 +1,7 @@
 -- Rows of boxes: the row of every call is the row of some box.
-use Rattle.std.specs.Prelude.{◌≡◌, ℕ, ◌+◌, ◌<◌, ◌≤◌, Bool, true, false, cond, ◌&&◌, ltb, List, map, length, ◌==◌, nat_le, nat_lt, refl}
-use Rattle.std.proofs.Common.{sym, subst, arith}
+use Rattle.std.specs.Prelude.{◌≡◌, ℕ, ◌+◌, ◌<◌, ◌≤◌, Bool, true, false, ◌&&◌, ltb, List, map, length, ◌==◌, nat_le, nat_lt, slice_index_or, refl}
+use Rattle.std.proofs.Common.{sym, subst, ◌∙◌, arith}
+use Rattle.std.proofs.lemmas.List.{get_or_default}
 use Rattle.std.proofs.lemmas.List.FromFn.{length-map-range_with_len, get_or-map-range_with_len}
 use Rattle.std.proofs.lemmas.Bool.{and_parts, and_from, and_left, and_right, cond_both, leb-true, le-leb, ltb-false, lt-ltb, eqb-true, eq-eqb, ne_eqb}
 use Rattle.std.specs.List.{range_with_len}
@@ -9,7 +10,7 @@ use Rattle.zone.specs.declared.bound.Bound.TheVariants.{Free}
 use Rattle.zone.specs.declared.boxed.range.Range.{Range}
 use Rattle.zone.specs.declared.boxed.row.BoxRow.{BoxRow}
 use Rattle.zone.specs.Bounds.{nil, implies, tighter, size}
-use Rattle.zone.specs.BoxRows.{range_at, ranges_row, proper, empty_row, void_row, whole_row, elapsed_row, reset_row, tightened_row}
+use Rattle.zone.specs.BoxRows.{range_at, ranges_row, proper, empty_row, void_row, whole_row, changed_row, elapsed_row, reset_row, tightened_row}
 use Rattle.zone.specs.Laws.{countable}
 use Rattle.zone.specs.Ranges.{whole_range, zero_range, contains, fits, elapsed, reset, tightened}
 use Rattle.zone.specs.Tests.{every}
@@ -57,23 +58,23 @@ fits_elapsed n k g f = go (nat_lt k n) refl
     go true e = fits_inside n k (elapsed g) e (fits_floor n k g f e) (fits_small n k g f).0 (omega arith)
     go false e = rw (fits_past n k g f e) (fits_whole n k)
 
-fits_reset : (n k x : ℕ) (g : Range) → x ≤ n → fits n k g ≡ true → fits n k (reset x k g) ≡ true
+fits_reset : (n k x : ℕ) (g : Range) → x ≤ n → fits n k g ≡ true → fits n k (reset x (k + 1) g) ≡ true
 fits_reset n k x g l f =
     cond_both (x == k + 1) zero_range g (λ h. fits n k h ≡ true) (λ e. let i : x ≡ k + 1 = eqb-true x (k + 1) e in fits_inside n k zero_range (lt-ltb k n (omega arith)) refl (omega arith) (omega arith)) (λ _. f)
 
-tightened_past : (n k i j : ℕ) (b : Bound) (g : Range) → i ≤ n → j ≤ n → nat_lt k n ≡ false → tightened i j b k g ≡ g
+tightened_past : (n k i j : ℕ) (b : Bound) (g : Range) → i ≤ n → j ≤ n → nat_lt k n ≡ false → tightened i j b (k + 1) g ≡ g
 tightened_past n k i j b g l m e =
     let h : n ≤ k = ltb-false k n e in
     rw (ne_eqb i (k + 1) (λ e. omega arith), ne_eqb j (k + 1) (λ e. omega arith))
 
-fits_tightened : (n k i j : ℕ) (b : Bound) (g : Range) → i ≤ n → j ≤ n → size b ≤ 10000 → fits n k g ≡ true → fits n k (tightened i j b k g) ≡ true
+fits_tightened : (n k i j : ℕ) (b : Bound) (g : Range) → i ≤ n → j ≤ n → size b ≤ 10000 → fits n k g ≡ true → fits n k (tightened i j b (k + 1) g) ≡ true
 fits_tightened n k i j b g l m s f = go (nat_lt k n) refl
   where
-    go : (t : Bool) → nat_lt k n ≡ t → fits n k (tightened i j b k g) ≡ true
+    go : (t : Bool) → nat_lt k n ≡ t → fits n k (tightened i j b (k + 1) g) ≡ true
     go true e =
         let w = fits_small n k g f in
         let o = fits_floor n k g f e in
-        fits_inside n k (tightened i j b k g) e
+        fits_inside n k (tightened i j b (k + 1) g) e
         (cond_both (j == k + 1) (tighter g.lower b) g.lower (λ x. implies x nil ≡ true) (λ _. is_true _ (implies_trans (tighter g.lower b) g.lower nil (tighter_left g.lower b) (so _ o))) (λ _. o))
         (cond_both (j == k + 1) (tighter g.lower b) g.lower (λ x. size x ≤ 10000) (λ _. tighter_of (λ x. size x ≤ 10000) g.lower b w.0 s) (λ _. w.0))
         (cond_both (i == k + 1) (tighter g.upper b) g.upper (λ x. size x ≤ 10000) (λ _. tighter_of (λ x. size x ≤ 10000) g.upper b w.1 s) (λ _. w.1))
@@ -86,15 +87,18 @@ module _ (r : BoxRow) (h : proper r ≡ true) where
   unfolding proper
   proper_countable = (and_parts _ _ (and_parts _ _ h).0).1
 
+  pub proper_length : length r.ranges ≡ 6
+  unfolding proper
+  proper_length = eqb-true _ _ (and_parts _ _ (and_parts _ _ h).0).0
+
   pub proper_fits : (k : ℕ) → k < 6 → fits r.clocks k (range_at r.ranges k) ≡ true
   unfolding proper
   proper_fits k l = every_at (λ k. fits r.clocks k (range_at r.ranges k)) 6 (and_parts _ _ h).1 k l
 
-  pub proper_lower : (k : ℕ) → k < 6 → size (range_at r.ranges k).lower ≤ 10000
-  proper_lower k l = (fits_small r.clocks k (range_at r.ranges k) (proper_fits k l)).0
-
-  pub proper_upper : (k : ℕ) → k < 6 → size (range_at r.ranges k).upper ≤ 10000
-  proper_upper k l = (fits_small r.clocks k (range_at r.ranges k) (proper_fits k l)).1
+  pub proper_small : (k : ℕ) (d g : Range) → k < length r.ranges → g ≡ slice_index_or r.ranges k d → (size g.lower ≤ 10000) × (size g.upper ≤ 10000)
+  proper_small k d g l e =
+      let f : fits r.clocks k (range_at r.ranges k) ≡ true = proper_fits k (omega (arith, proper_length)) in
+      fits_small r.clocks k g (subst (λ (h : Range). fits r.clocks k h ≡ true) (get_or_default r.ranges k (record { lower = Free; upper = Free }) d l ∙ sym e) f)
 
 pub proper_none : (r : BoxRow) → countable r.clocks ≡ false → proper r ≡ false
 unfolding proper
@@ -130,65 +134,36 @@ unfolding whole_row
 proper_whole n =
     cond_both (countable n) (ranges_row n (λ k. whole_range)) void_row (λ r. proper r ≡ true) (λ h. proper_ranges n (λ k. whole_range) h (λ k _. fits_whole n k)) (λ _. proper_void)
 
--- an empty row stays as it is
-module _ (r : BoxRow) (e : empty_row r ≡ true) where
-  pub elapsed_empty : elapsed_row r ≡ r
-  unfolding elapsed_row
-  elapsed_empty = rw e
+module _ (f : ℕ → Range → Range) (r : BoxRow) where
+  -- an empty row stays as it is
+  pub changed_empty : empty_row r ≡ true → changed_row f r ≡ r
+  unfolding changed_row
+  changed_empty e = rw e
 
-  pub reset_empty : (x : ℕ) → reset_row r x ≡ r
-  unfolding reset_row
-  reset_empty x = rw e
+  pub changed_is : empty_row r ≡ false → changed_row f r ≡ ranges_row r.clocks (λ k. f (k + 1) (range_at r.ranges k))
+  unfolding changed_row
+  changed_is e = rw e
 
-  pub tightened_empty : (i j : ℕ) (b : Bound) → tightened_row r i j b ≡ r
-  unfolding tightened_row
-  tightened_empty i j b = rw e
+  -- a change that keeps what each clock can have
+  pub proper_changed : proper r ≡ true → ((k : ℕ) (g : Range) → fits r.clocks k g ≡ true → fits r.clocks k (f (k + 1) g) ≡ true) → proper (changed_row f r) ≡ true
+  unfolding changed_row
+  proper_changed h keeps =
+      cond_both (empty_row r) r (ranges_row r.clocks (λ k. f (k + 1) (range_at r.ranges k))) (λ s. proper s ≡ true) (λ _. h) (λ _. proper_ranges r.clocks _ (proper_countable r h) (λ k l. keeps k (range_at r.ranges k) (proper_fits r h k l)))
 
-module _ (r : BoxRow) (e : empty_row r ≡ false) where
-  pub elapsed_is : elapsed_row r ≡ ranges_row r.clocks (λ k. elapsed (range_at r.ranges k))
-  unfolding elapsed_row
-  elapsed_is = rw e
-
-  pub reset_is : (x : ℕ) → reset_row r x ≡ ranges_row r.clocks (λ k. reset x k (range_at r.ranges k))
-  unfolding reset_row
-  reset_is x = rw e
-
-  pub tightened_is : (i j : ℕ) (b : Bound) → tightened_row r i j b ≡ ranges_row r.clocks (λ k. tightened i j b k (range_at r.ranges k))
-  unfolding tightened_row
-  tightened_is i j b = rw e
+  -- every call keeps the clock count
+  pub changed_count : (changed_row f r).clocks ≡ r.clocks
+  unfolding changed_row ranges_row
+  changed_count = cond_both (empty_row r) r (ranges_row r.clocks (λ k. f (k + 1) (range_at r.ranges k))) (λ (s : BoxRow). s.clocks ≡ r.clocks) (λ _. refl) (λ _. refl)
 
 module _ (r : BoxRow) (h : proper r ≡ true) where
   pub proper_elapsed : proper (elapsed_row r) ≡ true
-  unfolding elapsed_row
-  proper_elapsed =
-      cond_both (empty_row r) r (ranges_row r.clocks (λ k. elapsed (range_at r.ranges k))) (λ s. proper s ≡ true) (λ _. h) (λ _. proper_ranges r.clocks _ (proper_countable r h) (λ k l. fits_elapsed r.clocks k (range_at r.ranges k) (proper_fits r h k l)))
+  proper_elapsed = proper_changed (λ _. elapsed) r h (λ k g f. fits_elapsed r.clocks k g f)
 
   pub proper_reset : (x : ℕ) → x ≤ r.clocks → proper (reset_row r x) ≡ true
-  unfolding reset_row
-  proper_reset x u =
-      cond_both (empty_row r) r (ranges_row r.clocks (λ k. reset x k (range_at r.ranges k))) (λ s. proper s ≡ true) (λ _. h) (λ _. proper_ranges r.clocks _ (proper_countable r h) (λ k l. fits_reset r.clocks k x (range_at r.ranges k) u (proper_fits r h k l)))
+  proper_reset x u = proper_changed (reset x) r h (λ k g f. fits_reset r.clocks k x g u f)
 
   pub proper_tightened : (i j : ℕ) (b : Bound) → i ≤ r.clocks → j ≤ r.clocks → size b ≤ 10000 → proper (tightened_row r i j b) ≡ true
-  unfolding tightened_row
-  proper_tightened i j b u v s =
-      cond_both (empty_row r) r (ranges_row r.clocks (λ k. tightened i j b k (range_at r.ranges k))) (λ s. proper s ≡ true) (λ _. h) (λ _. proper_ranges r.clocks _ (proper_countable r h) (λ k l. fits_tightened r.clocks k i j b (range_at r.ranges k) u v s (proper_fits r h k l)))
-
--- every call keeps the clock count
-clocks_by : (t : Bool) (r s : BoxRow) → s.clocks ≡ r.clocks → (cond t r s).clocks ≡ r.clocks
-clocks_by true r s e = refl
-clocks_by false r s e = e
-
-pub elapsed_count : (r : BoxRow) → (elapsed_row r).clocks ≡ r.clocks
-unfolding elapsed_row ranges_row
-elapsed_count r = clocks_by (empty_row r) r (ranges_row r.clocks (λ k. elapsed (range_at r.ranges k))) refl
-
-pub reset_count : (r : BoxRow) (x : ℕ) → (reset_row r x).clocks ≡ r.clocks
-unfolding reset_row ranges_row
-reset_count r x = clocks_by (empty_row r) r (ranges_row r.clocks (λ k. reset x k (range_at r.ranges k))) refl
-
-pub tightened_count : (r : BoxRow) (i j : ℕ) (b : Bound) → (tightened_row r i j b).clocks ≡ r.clocks
-unfolding tightened_row ranges_row
-tightened_count r i j b = clocks_by (empty_row r) r (ranges_row r.clocks (λ k. tightened i j b k (range_at r.ranges k))) refl
+  proper_tightened i j b u v s = proper_changed (tightened i j b) r h (λ k g f. fits_tightened r.clocks k i j b g u v s f)
 
 -- a row by its ranges
 pub same_row : (n : ℕ) (m : List Range) (f : ℕ → Range) → m ≡ map f (range_with_len 0 6) → record { clocks = n; ranges = m } ≡ ranges_row n f

@@ -5,12 +5,10 @@ use Rattle.std.proofs.Math.Bool.{Bool-set}
 use Rattle.zone.specs.declared.boxed.BoxZone.{BoxZone}
 use Rattle.zone.specs.declared.boxed.row.BoxRow.{BoxRow}
 use Rattle.zone.specs.declared.constraint.Constraint.{Constraint}
-use Rattle.zone.specs.declared.fault.ZoneFault.{ZoneFault}
 use Rattle.zone.specs.declared.fault.ZoneFault.TheVariants.{OutOfRange, NoDifferences}
 use Rattle.zone.specs.Bounds.{bound_of}
 use Rattle.zone.specs.BoxCalls.{void, make, of_row, constrained}
 use Rattle.zone.specs.BoxRows.{proper, void_row, tightened_row}
-use Rattle.zone.specs.Judging.{judged}
 use Rattle.zone.specs.Laws.{in_range, difference}
 use Rattle.zone.specs.CheckedLemmas.{zone_void, row_zone, zone_none, zone_row, zone_with}
 
@@ -57,14 +55,6 @@ unproper_void r h = zone_void proper make void r h ∙ void_is
 -- ---- constraints
 
 module _ (z : BoxZone) (c : Constraint) where
-  pub constrained_refused : (e : ZoneFault) → judged z.row.clocks false c ≡ Err e → constrained z c ≡ Err e
-  unfolding constrained
-  constrained_refused e h = rw h
-
-  pub constrained_granted : (u : Unit {0}) → judged z.row.clocks false c ≡ Ok u → constrained z c ≡ Ok (of_row (tightened_row z.row c.i c.j (bound_of c)))
-  unfolding constrained
-  constrained_granted u h = rw h
-
   pub constrained_out : in_range z.row.clocks c ≡ false → constrained z c ≡ Err OutOfRange
   unfolding constrained
   constrained_out h = rw h

@@ -1,23 +1,9 @@
--- The list of a grid's bounds: what a loop has written of it, and its entries.
-use Rattle.std.specs.Prelude.{◌≡◌, ℕ, ◌+◌, ◌*◌, ◌/◌, ◌%◌, ◌<◌, ◌≤◌, List, length, get_or, slice_index_or}
+-- The list of a grid's bounds and its entries.
+use Rattle.std.specs.Prelude.{◌≡◌, ℕ, ◌+◌, ◌*◌, ◌/◌, ◌%◌, ◌<◌, length, slice_index_or}
 use Rattle.std.proofs.Common.{◌∙◌, ap, arith}
 use Rattle.std.proofs.lemmas.List.FromFn.{length-map-range_with_len, get_or-map-range_with_len}
-use Rattle.zone.specs.declared.bound.Bound.{Bound}
 use Rattle.zone.specs.declared.bound.Bound.TheVariants.{Free}
 use Rattle.zone.specs.Grids.{Grid, entry, listed}
-use Rattle.zone.specs.Filled.{Filled, filled_all}
-
-pub entry_at : (m : List Bound) (k : ℕ) → entry m (k / 7) (k % 7) ≡ slice_index_or m k Free
-unfolding entry
-entry_at m k = let e : 7 * (k / 7) + k % 7 ≡ k = omega arith in ap (λ h. get_or m h Free) e
-
--- the first k bounds are those of the grid
-abbrev pub Written : Grid → List Bound → ℕ → Type 0
-Written d xs k = Filled (λ h. d (h / 7) (h % 7)) 49 Free xs k
-
-pub written_all : (d : Grid) (xs : List Bound) (k : ℕ) → Written d xs k → 49 ≤ k → xs ≡ listed d
-unfolding listed
-written_all d xs k w l = filled_all w l
 
 pub length_listed : (d : Grid) → length (listed d) ≡ 49
 unfolding listed

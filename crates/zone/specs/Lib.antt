@@ -18,7 +18,6 @@ pub mod BoxLaws
 pub mod BoxRowsLemmas
 pub mod Closed
 pub mod Cells
-pub mod Filled
 pub mod Every
 pub mod Truth
 pub mod Order

@@ -1,5 +1,5 @@
 -- The range of one clock x: a bound of 0 − x, which is its lower end, and one of x − 0, its upper end.
-use Rattle.std.specs.Prelude.{ℕ, ◌+◌, Bool, cond, ◌&&◌, pos, ◌==◌, nat_le, nat_lt}
+use Rattle.std.specs.Prelude.{ℕ, Bool, cond, ◌&&◌, pos, ◌==◌, nat_le, nat_lt}
 use Rattle.zone.specs.declared.bound.Bound.{Bound}
 use Rattle.zone.specs.declared.bound.Bound.TheVariants.{Free, Below}
 use Rattle.zone.specs.declared.boxed.range.Range.{Range}
@@ -37,13 +37,13 @@ fits n k g = cond (nat_lt k n) (implies g.lower nil && nat_le (size g.lower) 100
 abbrev pub elapsed : Range → Range
 elapsed g = record { lower = g.lower; upper = Free }
 
--- the range at place k, which is that of clock k + 1, with clock x set to zero
+-- the range of clock y, with clock x set to zero
 abbrev pub reset : ℕ → ℕ → Range → Range
-reset x k g = cond (x == k + 1) zero_range g
+reset x y g = cond (x == y) zero_range g
 
--- the range at place k, with the bound of x_i − x_j
+-- the range of clock y, with the bound b of x_i − x_j
 abbrev pub tightened : ℕ → ℕ → Bound → ℕ → Range → Range
-tightened i j b k g = record { lower = cond (j == k + 1) (tighter g.lower b) g.lower; upper = cond (i == k + 1) (tighter g.upper b) g.upper }
+tightened i j b y g = record { lower = cond (j == y) (tighter g.lower b) g.lower; upper = cond (i == y) (tighter g.upper b) g.upper }
 
 -- the reading x lies in the range, at k ticks to the unit
 abbrev pub Lies : ℕ → Range → ℕ → Type 0

@@ -1,16 +1,14 @@
 -- Difference zones and their rows.
-use Rattle.std.specs.Prelude.{◌≡◌, true, false, Ok, Err, ◌≢◌, refl}
+use Rattle.std.specs.Prelude.{◌≡◌, true, false, Err, ◌≢◌, refl}
 use Rattle.std.proofs.Common.{◌∙◌}
 use Rattle.std.proofs.Math.Bool.{Bool-set}
 use Rattle.zone.specs.declared.constraint.Constraint.{Constraint}
 use Rattle.zone.specs.declared.difference.DifferenceZone.{DifferenceZone}
 use Rattle.zone.specs.declared.difference.row.DifferenceRow.{DifferenceRow}
-use Rattle.zone.specs.declared.fault.ZoneFault.{ZoneFault}
 use Rattle.zone.specs.declared.fault.ZoneFault.TheVariants.{OutOfRange}
 use Rattle.zone.specs.Bounds.{bound_of}
 use Rattle.zone.specs.DifferenceCalls.{void, make, of_row, granted, constrained}
 use Rattle.zone.specs.DifferenceRows.{proper, empty_row, tightened_row}
-use Rattle.zone.specs.Judging.{judged}
 use Rattle.zone.specs.Laws.{in_range}
 use Rattle.zone.specs.CheckedLemmas.{zone_void, row_zone, zone_none, zone_row, zone_with}
 
@@ -63,11 +61,3 @@ constrained_in z c h = rw h
 pub constrained_out : (z : DifferenceZone) (c : Constraint) → in_range z.row.clocks c ≡ false → constrained z c ≡ Err OutOfRange
 unfolding constrained
 constrained_out z c h = rw h
-
-pub constrained_refused : (z : DifferenceZone) (c : Constraint) (e : ZoneFault) → judged z.row.clocks true c ≡ Err e → constrained z c ≡ Err e
-unfolding constrained
-constrained_refused z c e h = rw h
-
-pub constrained_granted : (z : DifferenceZone) (c : Constraint) (u : Unit {0}) → judged z.row.clocks true c ≡ Ok u → constrained z c ≡ granted (tightened_row z.row c.i c.j (bound_of c))
-unfolding constrained
-constrained_granted z c u h = rw h

@@ -1,6 +1,6 @@
 // Bounds on the difference of two clocks: their order and their sum.
 ghost use Rattle.std.specs.Prelude.{◌≡◌, ◌≤◌, nat_le};
-ghost use Rattle.zone.specs.Bounds.{implies, tighter as tighter_of, plus as plus_of, size, narrow, bound_of};
+ghost use Rattle.zone.specs.Bounds.{implies, tighter as tighter_of, plus as plus_of, size, bound_of};
 
 use crate::constraint::Constraint;
 
@@ -16,6 +16,7 @@ impl Bound {
     pub(crate) const ZERO: Bound = Bound::AtMost(0);
 
     // Whether this bound is at least as tight as the other.
+    // Not `Ord`: its impls with their laws would be longer than this match, and less would mean tighter.
     pub(crate) fn implies(self, other: Bound) -> bool
         ensures { result ≡ implies self other }
     {
@@ -41,8 +42,7 @@ impl Bound {
         ensures { result ≡ plus_of self other }
     {
         match (self, other) {
-            (Bound::Free, _) => Bound::Free,
-            (_, Bound::Free) => Bound::Free,
+            (Bound::Free, _) | (_, Bound::Free) => Bound::Free,
             (Bound::AtMost(c), Bound::AtMost(d)) => Bound::AtMost(c + d),
             (Bound::AtMost(c), Bound::Below(d)) => Bound::Below(c + d),
             (Bound::Below(c), Bound::AtMost(d)) => Bound::Below(c + d),
@@ -50,32 +50,24 @@ impl Bound {
         }
     }
 
-    // Whether the constant lies within 1,000,000 either way.
-    pub(crate) fn is_narrow(self) -> bool
-        ensures { result ≡ narrow self }
+    // Whether the constant lies within the limit either way.
+    pub(crate) fn is_within(self, limit: u32) -> bool
+        ensures { result ≡ nat_le (size self) limit }
     {
         match self {
             Bound::Free => true,
-            Bound::AtMost(c) => -1_000_000 <= c && c <= 1_000_000,
-            Bound::Below(c) => -1_000_000 <= c && c <= 1_000_000,
+            // One arm for both variants gets no proof.
+            Bound::AtMost(c) => c.unsigned_abs() <= limit,
+            Bound::Below(c) => c.unsigned_abs() <= limit,
         }
     }
+}
 
-    // Whether the constant lies within 10,000 either way.
-    pub(crate) fn is_moderate(self) -> bool
-        ensures { result ≡ nat_le (size self) 10000 }
-    {
-        match self {
-            Bound::Free => true,
-            Bound::AtMost(c) => -10_000 <= c && c <= 10_000,
-            Bound::Below(c) => -10_000 <= c && c <= 10_000,
-        }
-    }
+// The bound that a constraint sets.
+impl From<Constraint> for Bound {
+    ghost from_gives = { λ c b. b ≡ bound_of c };
 
-    // The bound that a constraint sets.
-    pub(crate) fn of(constraint: Constraint) -> Bound
-        ensures { result ≡ bound_of constraint }
-    {
+    fn from(constraint: Constraint) -> Bound {
         if constraint.strict {
             Bound::Below(constraint.constant)
         } else {

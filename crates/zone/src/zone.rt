@@ -1,5 +1,5 @@
 // The interface of a zone kind: its calls, what a zone means, and the laws that tie the two.
-ghost use Rattle.std.specs.Prelude.{◌≡◌};
+ghost use Rattle.std.specs.Prelude.{◌≡◌, Bool};
 ghost use Rattle.zone.specs.Calls.{Calls};
 ghost use Rattle.zone.specs.Laws.{Laws};
 
@@ -13,10 +13,17 @@ pub trait Zone: Copy {
     // Whether the kind holds bounds on the difference of two clocks.
     const DIFFERENCES: bool;
 
+    ghost DIFFERENCES: { Bool };
+
     ghost calls: { Calls Self Self.Row };
 
+    ghost told: { DIFFERENCES ≡ calls.differences };
+
     fn holds_differences() -> bool
-        ensures { result ≡ calls.differences };
+        ensures { result ≡ calls.differences }
+    {
+        Self::DIFFERENCES
+    }
 
     // Every valuation of so many clocks.
     fn whole(clocks: u8) -> Self

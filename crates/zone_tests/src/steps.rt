@@ -1,9 +1,7 @@
 // Short forms of the calls that the tests make.
 use zone::{Constraint, Zone, ZoneFault};
 
-// x_i − x_j ≤ constant.
-pub(crate) fn at_most<Z: Zone>(zone: &Z, i: u8, j: u8, constant: i32) -> Result<Z, ZoneFault> {
-    let strict = false;
+fn bounded<Z: Zone>(zone: &Z, i: u8, j: u8, strict: bool, constant: i32) -> Result<Z, ZoneFault> {
     zone.constrain(Constraint {
         i,
         j,
@@ -12,15 +10,14 @@ pub(crate) fn at_most<Z: Zone>(zone: &Z, i: u8, j: u8, constant: i32) -> Result<
     })
 }
 
+// x_i − x_j ≤ constant.
+pub(crate) fn at_most<Z: Zone>(zone: &Z, i: u8, j: u8, constant: i32) -> Result<Z, ZoneFault> {
+    bounded(zone, i, j, false, constant)
+}
+
 // x_i − x_j < constant.
 pub(crate) fn below<Z: Zone>(zone: &Z, i: u8, j: u8, constant: i32) -> Result<Z, ZoneFault> {
-    let strict = true;
-    zone.constrain(Constraint {
-        i,
-        j,
-        strict,
-        constant,
-    })
+    bounded(zone, i, j, true, constant)
 }
 
 // The zone of two clocks at 0.
@@ -29,10 +26,7 @@ pub(crate) fn origin<Z: Zone>() -> Result<Z, ZoneFault> {
 }
 
 pub(crate) fn refusal<Z: Zone>(res: Result<Z, ZoneFault>) -> Option<ZoneFault> {
-    match res {
-        Ok(_) => None,
-        Err(fault) => Some(fault),
-    }
+    res.err()
 }
 
 // Whether each zone lies in the other.

@@ -4,14 +4,13 @@ ghost use Rattle.zone.specs.BoxRows.{proper};
 
 mod kind;
 mod range;
-mod ranges;
 mod row;
 mod rows;
 
 pub use range::Range;
 pub use row::BoxRow;
 
-// A lower and an upper bound for each clock.
+// A lower and an upper bound for each clock. A type beside `DifferenceZone`, since a generic one over checked rows would need a trait of rows as long as the lines that the two share.
 #[derive(Clone, Copy)]
 pub struct BoxZone {
     row: BoxRow,

@@ -1,12 +1,16 @@
 // The range of one clock.
-ghost use Rattle.std.specs.Prelude.{◌≡◌, ◌<◌, ◌≤◌};
-ghost use Rattle.zone.specs.Bounds.{size};
+ghost use Rattle.std.specs.Prelude.{◌≡◌, ◌≤◌};
+ghost use Rattle.zone.specs.Bounds.{size, bound_of};
 ghost use Rattle.zone.specs.Ranges.{inhabited, contains, has_zero, fits, elapsed as elapsed_of, tightened as tightened_of, reset as reset_of};
 
 use crate::bound::Bound;
+use crate::constraint::Constraint;
+
+// No constant of a range is further from 0.
+const LIMIT: u32 = 10_000;
 
 // `lower` is the bound of 0 − x, and `upper` that of x − 0.
-#[derive(Clone, Copy)]
+#[derive(Clone, Copy, PartialEq, Eq)]
 pub struct Range {
     pub lower: Bound,
     pub upper: Bound,
@@ -53,13 +57,14 @@ impl Range {
 
     // Whether a box of so many clocks can have this range at place k.
     pub(super) fn fits(self, clocks: u8, k: usize) -> bool
-        requires { k < 6 }
         ensures { result ≡ fits clocks k self }
     {
-        if k < clocks as usize {
-            self.lower.implies(Bound::ZERO) && self.lower.is_moderate() && self.upper.is_moderate()
+        if k < usize::from(clocks) {
+            self.lower.implies(Bound::ZERO)
+                && self.lower.is_within(LIMIT)
+                && self.upper.is_within(LIMIT)
         } else {
-            self.is_within(Range::WHOLE) && Range::WHOLE.is_within(self)
+            self == Range::WHOLE
         }
     }
 
@@ -67,34 +72,33 @@ impl Range {
         ensures { result ≡ elapsed_of self }
     {
         Range {
-            lower: self.lower,
             upper: Bound::Free,
+            ..self
         }
     }
 
-    // The range of the clock at place k, after that clock is set to zero.
-    pub(super) fn reset(self, clock: u8, k: usize) -> Range
-        requires { k < 6 }
-        ensures { result ≡ reset_of clock k self }
+    // The range of clock x, after a clock is set to zero.
+    pub(super) fn reset(self, clock: u8, x: usize) -> Range
+        ensures { result ≡ reset_of clock x self }
     {
-        if clock as usize == k + 1 {
+        if usize::from(clock) == x {
             Range::ZERO
         } else {
             self
         }
     }
 
-    // The range of the clock at place k, with the bound of clocks i and j, one of which is 0.
-    pub(super) fn tightened(self, i: u8, j: u8, bound: Bound, k: usize) -> Range
-        requires { k < 6 }
-        ensures { result ≡ tightened_of i j bound k self }
+    // The range of clock x, under a constraint with clock 0.
+    pub(super) fn tightened(self, constraint: Constraint, x: usize) -> Range
+        ensures { result ≡ tightened_of constraint.i constraint.j (bound_of constraint) x self }
     {
-        let lower = if j as usize == k + 1 {
+        let bound = Bound::from(constraint);
+        let lower = if usize::from(constraint.j) == x {
             self.lower.tighter(bound)
         } else {
             self.lower
         };
-        let upper = if i as usize == k + 1 {
+        let upper = if usize::from(constraint.i) == x {
             self.upper.tighter(bound)
         } else {
             self.upper

@@ -1,14 +1,15 @@
-// The calls of the box kind on rows.
-ghost use Rattle.std.specs.Prelude.{◌≡◌, true};
-ghost use Rattle.zone.specs.BoxRows.{proper, empty_row, void_row, whole_row, elapsed_row, reset_row, tightened_row, within_rows, zero_row};
+// The rows of boxes.
+ghost use Rattle.std.specs.Prelude.{◌≡◌};
+ghost use Rattle.zone.specs.BoxRows.{proper, void_row, whole_row};
+ghost use Rattle.zone.specs.Ranges.{fits};
 
 use super::range::Range;
-use super::ranges;
 use super::row::BoxRow;
-use crate::bound::Bound;
+use crate::judging::is_countable;
 
 impl BoxRow {
     // One clock, with no time in its range.
+    #[tactic(auto, unfolding(crate::specs::BoxRows::void_row, crate::specs::BoxRows::ranges_row))]
     pub(super) fn void() -> BoxRow
         ensures { result ≡ void_row }
     {
@@ -17,10 +18,11 @@ impl BoxRow {
         BoxRow { clocks: 1, ranges }
     }
 
+    #[tactic(auto, unfolding(crate::specs::BoxRows::whole_row, crate::specs::BoxRows::ranges_row))]
     pub(super) fn whole(clocks: u8) -> BoxRow
         ensures { result ≡ whole_row clocks }
     {
-        if clocks < 1 || clocks > 6 {
+        if !is_countable(clocks) {
             return BoxRow::void();
         }
         BoxRow {
@@ -32,75 +34,6 @@ impl BoxRow {
     pub(super) fn is_proper(&self) -> bool
         ensures { result ≡ proper self.now }
     {
-        if self.clocks < 1 || self.clocks > 6 {
-            return false;
-        }
-        ranges::all_fit(self.clocks, &self.ranges)
-    }
-
-    // Whether some range is empty.
-    pub(super) fn is_empty(&self) -> bool
-        requires { proper self.now ≡ true }
-        ensures { result ≡ empty_row self.now }
-    {
-        !ranges::are_inhabited(&self.ranges)
-    }
-
-    pub(super) fn elapsed(&self) -> BoxRow
-        requires { proper self.now ≡ true }
-        ensures { result ≡ elapsed_row self.now }
-    {
-        if self.is_empty() {
-            return *self;
-        }
-        BoxRow {
-            clocks: self.clocks,
-            ranges: ranges::elapsed(&self.ranges),
-        }
-    }
-
-    pub(super) fn reset(&self, clock: u8) -> BoxRow
-        requires { proper self.now ≡ true }
-        ensures { result ≡ reset_row self.now clock }
-    {
-        if self.is_empty() {
-            return *self;
-        }
-        BoxRow {
-            clocks: self.clocks,
-            ranges: ranges::reset(&self.ranges, clock),
-        }
-    }
-
-    pub(super) fn tightened(&self, i: u8, j: u8, bound: Bound) -> BoxRow
-        requires { proper self.now ≡ true }
-        ensures { result ≡ tightened_row self.now i j bound }
-    {
-        if self.is_empty() {
-            return *self;
-        }
-        BoxRow {
-            clocks: self.clocks,
-            ranges: ranges::tightened(&self.ranges, i, j, bound),
-        }
-    }
-
-    pub(super) fn is_within(&self, other: &BoxRow) -> bool
-        requires { proper self.now ≡ true }
-        ensures { result ≡ within_rows self.now other.now }
-    {
-        if self.clocks != other.clocks {
-            return false;
-        }
-        if self.is_empty() {
-            return true;
-        }
-        ranges::are_within(&self.ranges, &other.ranges)
-    }
-
-    pub(super) fn holds_zero(&self) -> bool
-        ensures { result ≡ zero_row self.now }
-    {
-        ranges::have_zero(&self.ranges)
+        is_countable(self.clocks) && (0..6).all(|k| self.ranges[k].fits(self.clocks, k))
     }
 }

@@ -1,6 +1,7 @@
 // The difference kind of zones.
-ghost use Rattle.std.specs.Prelude.{◌≡◌, ◌≤◌, true, false};
-ghost use Rattle.zone.specs.Bounds.{size};
+ghost use Rattle.std.specs.Prelude.{◌≡◌, refl, ◌≤◌, true, false};
+ghost use Rattle.std.specs.Option.{ForSome};
+ghost use Rattle.zone.specs.Bounds.{bound_of};
 ghost use Rattle.zone.specs.DifferenceCalls.{difference_calls, of_row, granted, constrained};
 ghost use Rattle.zone.specs.DifferencePaths.{ClosedByPaths, Tightens};
 ghost use Rattle.zone.specs.DifferenceRows.{proper, tightened_row};
@@ -12,7 +13,7 @@ use super::{DifferenceZone, bounds};
 use crate::bound::Bound;
 use crate::constraint::Constraint;
 use crate::fault::ZoneFault;
-use crate::judging::judge;
+use crate::judging::{judge, judge_clock};
 use crate::zone::Zone;
 
 impl DifferenceZone {
@@ -23,28 +24,28 @@ impl DifferenceZone {
         DifferenceZone { row }
     }
 
-    // With the bound of clocks i and j: empty where it contradicts the bound of j and i.
-    fn tightened(&self, i: u8, j: u8, bound: Bound) -> Result<DifferenceZone, ZoneFault>
-        requires within { (i ≤ self.now.row.clocks) × (j ≤ self.now.row.clocks) }
-        requires small { size bound ≤ 10000 }
-        ensures { result ≡ granted (tightened_row self.now.row i j bound) }
+    // With the bound of clocks i and j that the constraint sets: empty where it contradicts the bound of j and i.
+    #[tactic(auto, using(crate::specs::Zones::row_back, crate::specs::Rows::proper_empty, crate::specs::Rows::proper_countable), unfolding(crate::specs::DifferenceRows::tightened_row, crate::specs::DifferenceRows::tightened_by, crate::specs::DifferenceRows::judged_row, crate::specs::DifferenceRows::grid_row, crate::specs::Grids::entry))]
+    fn tightened(&self, constraint: Constraint) -> Result<DifferenceZone, ZoneFault>
+        requires { in_range self.now.row.clocks constraint ≡ true }
+        ensures { result ≡ granted (tightened_row self.now.row constraint.i constraint.j (bound_of constraint)) }
     {
-        if self.row.empty {
+        let Some(bounds) = &self.row.bounds else {
             return Ok(*self);
-        }
-        let back = self.row.bounds[7 * j as usize + i as usize];
-        if !Bound::ZERO.implies(bound.plus(back)) {
+        };
+        let i = usize::from(constraint.i);
+        let j = usize::from(constraint.j);
+        let bound = Bound::from(constraint);
+        if !Bound::ZERO.implies(bound.plus(bounds[7 * j + i])) {
             return Ok(DifferenceZone::of(DifferenceRow::empty(self.row.clocks)));
         }
-        let bounds = bounds::tightened(&self.row.bounds, i, j, bound);
+        let bounds = bounds::tightened(bounds, constraint);
         if !bounds::are_narrow(&bounds) {
             return Err(ZoneFault::TooWide);
         }
-        let clocks = self.row.clocks;
         Ok(DifferenceZone::of(DifferenceRow {
-            clocks,
-            empty: false,
-            bounds,
+            bounds: Some(bounds),
+            ..self.row
         }))
     }
 }
@@ -54,14 +55,15 @@ impl Zone for DifferenceZone {
 
     const DIFFERENCES: bool = true;
 
+    ghost DIFFERENCES = { true };
+
     ghost calls = { difference_calls };
+
+    ghost told = { refl };
 
     ghost sound = { difference_laws };
 
-    fn holds_differences() -> bool {
-        Self::DIFFERENCES
-    }
-
+    #[tactic(auto, using(crate::specs::Rows::proper_whole))]
     fn whole(clocks: u8) -> DifferenceZone {
         DifferenceZone::of(DifferenceRow::whole(clocks))
     }
@@ -70,27 +72,28 @@ impl Zone for DifferenceZone {
         self.row.clocks
     }
 
+    #[tactic(auto, unfolding(crate::specs::DifferenceCalls::constrained))]
     fn constrain(&self, constraint: Constraint) -> Result<DifferenceZone, ZoneFault>
         ensures value { result ≡ constrained self.now constraint }
-        ensures paths { in_range self.now.row.clocks constraint ≡ true → self.now.row.empty ≡ false → Tightens self.now constraint result }
+        ensures paths { in_range self.now.row.clocks constraint ≡ true → ForSome self.now.row.bounds (λ m. Tightens self.now.row.clocks m constraint result) }
     {
         judge(self.row.clocks, Self::DIFFERENCES, constraint)?;
-        self.tightened(constraint.i, constraint.j, Bound::of(constraint))
+        self.tightened(constraint)
     }
 
+    #[tactic(auto, using(crate::specs::Rows::proper_elapsed))]
     fn elapse(&self) -> DifferenceZone {
         DifferenceZone::of(self.row.elapsed())
     }
 
+    #[tactic(auto, using(crate::specs::Rows::proper_reset, crate::specs::InRange::judged_below), unfolding(crate::specs::DifferenceCalls::reset))]
     fn reset(&self, clock: u8) -> Result<DifferenceZone, ZoneFault> {
-        if clock < 1 || clock > self.row.clocks {
-            return Err(ZoneFault::OutOfRange);
-        }
+        judge_clock(self.row.clocks, clock)?;
         Ok(DifferenceZone::of(self.row.reset(clock)))
     }
 
     fn is_empty(&self) -> bool {
-        self.row.empty
+        self.row.bounds.is_none()
     }
 
     fn is_within(&self, other: &DifferenceZone) -> bool {
@@ -108,6 +111,7 @@ impl Zone for DifferenceZone {
         self.row
     }
 
+    #[tactic(auto, using(crate::specs::Rows::proper_empty, crate::specs::Zones::unproper_void))]
     fn from_row(row: &DifferenceRow) -> DifferenceZone
         ensures value { result ≡ of_row row.now }
         ensures paths { proper row.now ≡ true → ClosedByPaths row.now }

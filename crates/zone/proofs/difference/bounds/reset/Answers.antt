@@ -1,10 +1,7 @@
-use Rattle.std.proofs.Common.{arith}
-use Rattle.zone.specs.Cells.{written_all}
-use Rattle.zone.specs.Filled.{filled_more}
+use Rattle.std.proofs.Common.{rules}
+use Rattle.zone.specs.Grids.{entry, reset_grid}
 use Rattle.zone.proofs.difference.bounds.reset.Goals as goal
 
-pub loop-k-preserved : goal.loop-k-preserved
-loop-k-preserved c = filled_more c.reset_at.result c.loop-k.invariant (omega arith) c.reset_at.ensures
-
 pub returns : goal.returns
-returns c = written_all _ _ c.loop-k.k c.loop-k.invariant (omega arith)
+unfolding entry reset_grid
+returns c = c.grid.ensures (reset_grid (entry c.args.bounds.now) c.args.clock) (λ p q b l k e. search rules)

@@ -1,10 +1,8 @@
-use Rattle.std.proofs.Common.{arith}
-use Rattle.zone.specs.Cells.{written_all}
-use Rattle.zone.specs.Filled.{filled_more}
+use Rattle.std.proofs.Common.{rules}
+use Rattle.zone.specs.Bounds.{bound_of}
+use Rattle.zone.specs.Grids.{entry, tightened_grid}
 use Rattle.zone.proofs.difference.bounds.tightened.Goals as goal
 
-pub loop-k-preserved : goal.loop-k-preserved
-loop-k-preserved c = filled_more c.tightened_at.result c.loop-k.invariant (omega arith) c.tightened_at.ensures
-
 pub returns : goal.returns
-returns c = written_all _ _ c.loop-k.k c.loop-k.invariant (omega arith)
+unfolding entry tightened_grid
+returns c = c.grid.ensures (tightened_grid (entry c.args.bounds.now) c.args.constraint.i c.args.constraint.j (bound_of c.args.constraint)) (λ p q b l k e. search rules)

@@ -1,10 +1,7 @@
-use Rattle.std.proofs.Common.{arith}
-use Rattle.zone.specs.Cells.{written_all}
-use Rattle.zone.specs.Filled.{filled_more}
+use Rattle.std.proofs.Common.{rules}
+use Rattle.zone.specs.Grids.{whole_grid}
 use Rattle.zone.proofs.difference.bounds.whole.Goals as goal
 
-pub loop-k-preserved : goal.loop-k-preserved
-loop-k-preserved c = filled_more c.whole_at.result c.loop-k.invariant (omega arith) c.whole_at.ensures
-
 pub returns : goal.returns
-returns c = written_all _ _ c.loop-k.k c.loop-k.invariant (omega arith)
+unfolding whole_grid
+returns c = c.grid.ensures (whole_grid c.args.clocks) (λ p q b l k e. search rules)

@@ -1,8 +1,0 @@
-use Rattle.zone.specs.declared.bound.Bound.TheVariants.{Free}
-use Rattle.zone.specs.BoxRows.{range_at}
-use Rattle.zone.specs.Ranges.{elapsed}
-use Rattle.zone.specs.Filled.{Filled}
-use Rattle.zone.proofs.boxed.ranges.elapsed.Given as goal
-
-abbrev pub invariant-loop-k : goal.invariant-loop-k
-invariant-loop-k l = Filled (λ h. elapsed (range_at l.ranges h)) 6 (record { lower = Free; upper = Free }) l.out l.k

@@ -1,8 +1,0 @@
-use Rattle.std.proofs.Common.{◌≡◌, ◌/◌, ◌%◌, true, get_or}
-use Rattle.zone.specs.declared.bound.Bound.TheVariants.{Free}
-use Rattle.zone.specs.Grids.{fits}
-use Rattle.zone.specs.Tests.{every}
-use Rattle.zone.proofs.difference.bounds.all_fit.Given as goal
-
-abbrev pub invariant-loop-k : goal.invariant-loop-k
-invariant-loop-k l = every (λ h. fits l.clocks (h / 7) (h % 7) (get_or l.bounds h Free)) l.k ≡ true

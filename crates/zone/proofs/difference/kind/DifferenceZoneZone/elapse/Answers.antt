@@ -1,5 +1,0 @@
-use Rattle.zone.specs.Rows.{proper_elapsed}
-use Rattle.zone.proofs.difference.kind.DifferenceZoneZone.elapse.Goals as goal
-
-pub of-requires : goal.of-requires
-of-requires c = simp c.elapsed.ensures (proper_elapsed c.args.self.now.row c.args.self.now.fitting)
