@@ -1,12 +1,13 @@
 -- What examine and conclude answer, in terms of the nodes and their edges.
-use Rattle.std.proofs.Common.{◌≡◌, ℕ, zero, suc, ◌≤◌, min, Bool, true, false, cond, not, List, [], ◌∷◌, get_or, take, is_ok, IfOk, IfErr, Some, None, Ok, Err, Decides, Option, Result, sym, refl, ap, ◌∙◌, subst, ⊎_elim, arith}
+use Rattle.std.proofs.Common.{◌≡◌, ℕ, zero, suc, ◌≤◌, min, Bool, true, false, cond, not, List, [], ◌∷◌, get_or, take, is_ok, IfOk, IfErr, Some, None, Ok, Err, Decides, Option, Result, position, sym, refl, ap, ◌∙◌, subst, ⊎_elim, arith}
 use Rattle.std.proofs.lemmas.Bool.{both_ways, and_parts, and_from, not_from_false}
+use Rattle.std.proofs.lemmas.List.Quantifiers.{position-Some}
 use Rattle.sheet.specs.Automata.{Automaton, Edge}
 use Rattle.zone.specs.Calls as zones
 use Rattle.book.specs.Calls.{told, vacant, place, at_hand, stopped, marking, examining, unmarked, covers_start, lesser, least_left, verdict, concluding}
 use Rattle.book.specs.Covering.{walked}
 use Rattle.book.specs.Grants.{Covered, Grants, FirstUncovered, NamesFirst, Concludes, Least}
-use Rattle.book.specs.Marks.{none, lowest}
+use Rattle.book.specs.Marks.{none}
 use Rattle.book.specs.Questions.{Asks}
 use Rattle.book.specs.Standing.{accepting_at}
 use Rattle.book.specs.declared.fault.BookFault.{BookFault}
@@ -14,9 +15,9 @@ use Rattle.book.specs.declared.fault.BookFault.TheVariants as fault
 use Rattle.book.specs.declared.place.Place.{Place}
 use Rattle.book.specs.declared.walk.Stop.{Stop}
 use Rattle.book.specs.declared.walk.Stop.TheVariants.{Uncovered, Refused}
-use Rattle.book.proofs.Exactly.{apart, Failing, Tells, walk_tells}
+use Rattle.book.proofs.Exactly.{Failing, Tells, walk_tells}
 use Rattle.book.proofs.Simulation.{least_found}
-use Rattle.book.proofs.Walks.{lowest_some, lowest_none}
+use Rattle.book.proofs.Walks.{none_passes}
 
 module _ {Z Row : Type 0} (calls : zones.Calls Z Row) (asks : Asks) (a : Automaton) (ps : List (Place Row)) where
   module _ (i : ℕ) where
@@ -48,7 +49,7 @@ module _ {Z Row : Type 0} (calls : zones.Calls Z Row) (asks : Asks) (a : Automat
         let r = g.answered f.at d f.within s.1 in
         let u = s.2 in
         let w = r.1 in
-        let z : ◌≡◌ {A = ℕ} 0 1 = cc in omega arith
+        cc
 
     stopped_comes : (t : Bool) (stop : Stop) → Failing calls asks a ps node 0 a.edges stop → NamesFirst calls asks a ps i (stopped i t stop)
     stopped_comes true (Uncovered n) f = first_uncovered n f
@@ -66,21 +67,21 @@ module _ {Z Row : Type 0} (calls : zones.Calls Z Row) (asks : Asks) (a : Automat
         entered : (t : Bool) → asks.admits (accepting_at calls asks a (place calls asks a ps i)) (place calls asks a ps i).number ≡ t → at_hand calls asks a ps i ≡ true → (place calls asks a ps i).standing ≡ true
             → Comes (cond (not t) (Err (fault.NotAdmitted i)) (marking calls asks a ps i (walked calls asks a (place calls asks a ps i) (take 64 ps) 0 a.edges none)))
         entered true e h s = walked_comes h s e _ (walk_tells calls asks a ps (place calls asks a ps i) 0 a.edges none)
-        entered false e h s = (λ g. apart (sym g.admitted ∙ e), tt)
+        entered false e h s = (λ g. cc (sym g.admitted ∙ e), tt)
 
         stood : (t : Bool) → (place calls asks a ps i).standing ≡ t → at_hand calls asks a ps i ≡ true
             → Comes (cond (not t) (Err fault.PlaceVacant) (cond (not (asks.admits (accepting_at calls asks a (place calls asks a ps i)) (place calls asks a ps i).number)) (Err (fault.NotAdmitted i)) (marking calls asks a ps i (walked calls asks a (place calls asks a ps i) (take 64 ps) 0 a.edges none))))
         stood true s h = entered _ refl h s
-        stood false s h = (λ g. apart (sym g.standing ∙ s), tt)
+        stood false s h = (λ g. cc (sym g.standing ∙ s), tt)
 
         near : (t : Bool) → at_hand calls asks a ps i ≡ t
             → Comes (cond (not t) (Err fault.OutOfRange) (cond (not (place calls asks a ps i).standing) (Err fault.PlaceVacant) (cond (not (asks.admits (accepting_at calls asks a (place calls asks a ps i)) (place calls asks a ps i).number)) (Err (fault.NotAdmitted i)) (marking calls asks a ps i (walked calls asks a (place calls asks a ps i) (take 64 ps) 0 a.edges none)))))
         near true h = stood _ refl h
-        near false h = (λ g. apart (sym g.near ∙ h), tt)
+        near false h = (λ g. cc (sym g.near ∙ h), tt)
 
     granted_by : {X : Type 0} (r : Result X BookFault) → Comes r → Decides (is_ok (told r)) (Grants calls asks a ps i)
     granted_by (Ok x) g = (λ _. g, λ _. refl)
-    granted_by (Err f) g = ((λ p. apart (sym p)), λ h. absurd (g.0 h))
+    granted_by (Err f) g = ((λ p. cc (sym p)), λ h. absurd (g.0 h))
 
     named_by : {X : Type 0} (r : Result X BookFault) → Comes r → IfErr (told r) (NamesFirst calls asks a ps i)
     named_by (Ok x) g = tt
@@ -106,16 +107,16 @@ module _ {Z Row : Type 0} (calls : zones.Calls Z Row) (asks : Asks) (a : Automat
       go false e h (suc m) ih = ih h m
 
   least_below : (qs : List (Place Row)) (n : ℕ) → least_left calls asks a qs ≡ Some n → (m : ℕ) → covers_start calls a (get_or qs m (vacant calls asks a)) ≡ true → n ≤ asks.left (get_or qs m (vacant calls asks a)).number
-  least_below [] n p m c = apart (sym c)
+  least_below [] n p m c = cc (sym c)
   least_below (q ∷ qs) n p m c = go (covers_start calls a q) refl (least_left calls asks a qs) refl p m c (least_below qs)
     where
       go : (t : Bool) → covers_start calls a q ≡ t → (o : Option ℕ) → least_left calls asks a qs ≡ o → cond t (Some (lesser (asks.left q.number) o)) o ≡ Some n → (m : ℕ) → covers_start calls a (get_or (q ∷ qs) m (vacant calls asks a)) ≡ true
           → ((n : ℕ) → least_left calls asks a qs ≡ Some n → (m : ℕ) → covers_start calls a (get_or qs m (vacant calls asks a)) ≡ true → n ≤ asks.left (get_or qs m (vacant calls asks a)).number)
           → n ≤ asks.left (get_or (q ∷ qs) m (vacant calls asks a)).number
-      go false e o l h zero c ih = apart (sym c ∙ e)
+      go false e o l h zero c ih = cc (sym c ∙ e)
       go false e o l h (suc m) c ih = ih n (l ∙ h) m c
       go true e None l h zero c ih = let same : asks.left q.number ≡ n = cc in omega arith
-      go true e None l h (suc m) c ih = apart (sym c ∙ least_none qs l m)
+      go true e None l h (suc m) c ih = cc (sym c ∙ least_none qs l m)
       go true e (Some k) l h zero c ih = let same : min (asks.left q.number) k ≡ n = cc in omega arith
       go true e (Some k) l h (suc m) c ih = let same : min (asks.left q.number) k ≡ n = cc in omega (arith, ih k l m c)
 
@@ -124,12 +125,12 @@ module _ {Z Row : Type 0} (calls : zones.Calls Z Row) (asks : Asks) (a : Automat
   Ends (Ok n) = Concludes calls asks a ps × Least calls asks a ps n
   Ends (Err f) = Concludes calls asks a ps → ⊥
 
-  concluded_ends : (o u : Option ℕ) → least_left calls asks a (take 64 ps) ≡ o → lowest unmarked 0 (take 64 ps) ≡ u → Ends (verdict o u)
-  concluded_ends None u p q = λ c. apart (sym c.covered.1 ∙ least_none (take 64 ps) p c.covered.0)
+  concluded_ends : (o u : Option ℕ) → least_left calls asks a (take 64 ps) ≡ o → position unmarked (take 64 ps) ≡ u → Ends (verdict o u)
+  concluded_ends None u p q = λ c. cc (sym c.covered.1 ∙ least_none (take 64 ps) p c.covered.0)
   concluded_ends (Some n) (Some j) p q = λ c.
-      let low = lowest_some (vacant calls asks a) unmarked 0 (take 64 ps) j q in
-      let parts = and_parts _ _ low.3 in
-      both_ways _ (ap not (c.marked low.0 parts.0)) parts.1
+      let low = position-Some unmarked (take 64 ps) j (vacant calls asks a) q in
+      let parts = and_parts _ _ low.1 in
+      both_ways _ (ap not (c.marked j parts.0)) parts.1
   concluded_ends (Some n) None p q =
       let f = least_found calls asks a (take 64 ps) n p in (
         record { marked = λ i s. all_marked i s (place calls asks a ps i).marked refl; covered = (f.0, f.1) },
@@ -140,7 +141,7 @@ module _ {Z Row : Type 0} (calls : zones.Calls Z Row) (asks : Asks) (a : Automat
       all_marked i s true e = refl
       all_marked i s false e =
           let yes : unmarked (place calls asks a ps i) ≡ true = and_from _ _ s (not_from_false _ e) in
-          apart (sym yes ∙ lowest_none (vacant calls asks a) unmarked refl 0 (take 64 ps) q i)
+          cc (sym yes ∙ none_passes (vacant calls asks a) unmarked refl (take 64 ps) q i)
 
   -- conclude grants exactly when it should
   pub conclude_exactly : (r : Result ℕ BookFault) → r ≡ concluding calls asks a ps → Decides (is_ok r) (Concludes calls asks a ps)
@@ -148,7 +149,7 @@ module _ {Z Row : Type 0} (calls : zones.Calls Z Row) (asks : Asks) (a : Automat
     where
       go : (x : Result ℕ BookFault) → Ends x → Decides (is_ok x) (Concludes calls asks a ps)
       go (Ok n) e = (λ _. e.0, λ _. refl)
-      go (Err f) e = ((λ p. apart (sym p)), λ c. absurd (e c))
+      go (Err f) e = ((λ p. cc (sym p)), λ c. absurd (e c))
 
   -- and gives the least left
   pub conclude_least : (r : Result ℕ BookFault) → r ≡ concluding calls asks a ps → IfOk r (Least calls asks a ps)

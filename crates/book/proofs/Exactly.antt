@@ -1,23 +1,20 @@
 -- Examine and conclude grant exactly when they should.
-use Rattle.std.proofs.Common.{◌≡◌, ℕ, zero, suc, ◌+◌, ◌<◌, Bool, true, false, cond, eqb, List, [], ◌∷◌, length, get_or, take, Some, None, Ok, Err, Option, Result, sym, refl, ◌∙◌, inl, inr, arith}
+use Rattle.std.proofs.Common.{◌≡◌, ℕ, zero, suc, ◌+◌, ◌<◌, Bool, true, false, cond, eqb, List, [], ◌∷◌, length, get_or, take, Some, None, Ok, Err, Option, Result, position, sym, refl, ◌∙◌, inl, inr, arith}
 use Rattle.std.proofs.lemmas.Bool.{eqb-true, eq-eqb, both_ways}
+use Rattle.std.proofs.lemmas.List.Quantifiers.{position-Some}
 use Rattle.sheet.specs.Automata.{Automaton, Edge}
 use Rattle.zone.specs.Calls as zones
 use Rattle.zone.specs.declared.fault.ZoneFault.{ZoneFault}
 use Rattle.book.specs.Calls.{vacant}
-use Rattle.book.specs.Covering.{with_lean, on_with, covers, found, leaned, owed, walked}
+use Rattle.book.specs.Covering.{with_lean, on_with, covers, found, covered_by, entered, owed, walked}
 use Rattle.book.specs.Following.{followed}
 use Rattle.book.specs.Grants.{Covered, Answered}
-use Rattle.book.specs.Marks.{lowest}
 use Rattle.book.specs.Questions.{Asks}
 use Rattle.book.specs.Standing.{accepting_at}
 use Rattle.book.specs.declared.place.Place.{Place}
 use Rattle.book.specs.declared.walk.Stop.{Stop}
 use Rattle.book.specs.declared.walk.Stop.TheVariants.{Uncovered, Refused}
-use Rattle.book.proofs.Walks.{lowest_some, lowest_none}
-
-pub apart : {A : Type 0} → true ≡ false → A
-apart p = absurd (let z : ◌≡◌ {A = ℕ} 0 1 = cc in omega arith)
+use Rattle.book.proofs.Walks.{none_passes}
 
 module _ {Z Row : Type 0} (calls : zones.Calls Z Row) (asks : Asks) (a : Automaton) (ps : List (Place Row)) (p : Place Row) where
   abbrev v : Place Row
@@ -42,26 +39,26 @@ module _ {Z Row : Type 0} (calls : zones.Calls Z Row) (asks : Asks) (a : Automat
   Says i e (Ok o) = Answered calls asks a ps p e
   Says i e (Err stop) = Stops i e stop
 
-  found_says : (i : ℕ) (e : Edge) (z : Z) → e.source ≡ p.location → zone_of e ≡ Ok z → calls.empty z ≡ false → (o : Option ℕ) → lowest (test e z) 0 front ≡ o → Says i e (found i o)
-  found_says i e z s q h None l = (refl, s, (z, q, h, λ c. both_ways _ (lowest_none v (test e z) refl 0 front l c.0) c.1))
+  found_says : (i : ℕ) (e : Edge) (z : Z) → e.source ≡ p.location → zone_of e ≡ Ok z → calls.empty z ≡ false → (o : Option ℕ) → position (test e z) front ≡ o → Says i e (found i o)
+  found_says i e z s q h None l = (refl, s, (z, q, h, λ c. both_ways _ (none_passes v (test e z) refl front l c.0) c.1))
   found_says i e z s q h (Some j) l =
-      let low = lowest_some v (test e z) 0 front j l in
-      λ _. (z, q, inr (low.0, low.3))
+      let low = position-Some (test e z) front j v l in
+      λ _. (z, q, inr (j, low.1))
 
-  empty_says : (i : ℕ) (e : Edge) (z : Z) → e.source ≡ p.location → zone_of e ≡ Ok z → (t : Bool) → calls.empty z ≡ t → Says i e (cond t (Ok None) (found i (lowest (test e z) 0 front)))
+  empty_says : (i : ℕ) (e : Edge) (z : Z) → e.source ≡ p.location → zone_of e ≡ Ok z → (t : Bool) → calls.empty z ≡ t → Says i e (covered_by calls asks front i (cond t (Ok None) (Ok (Some (record { accepting = accepting_at calls asks a p; number = p.number; target = e.target; zone = z })))))
   empty_says i e z s q true h = λ _. (z, q, inl h)
-  empty_says i e z s q false h = found_says i e z s q h (lowest (test e z) 0 front) refl
+  empty_says i e z s q false h = found_says i e z s q h (position (test e z) front) refl
 
-  zone_says : (i : ℕ) (e : Edge) → e.source ≡ p.location → (r : Result Z ZoneFault) → zone_of e ≡ r → Says i e (leaned calls asks a p front i e r)
+  zone_says : (i : ℕ) (e : Edge) → e.source ≡ p.location → (r : Result Z ZoneFault) → zone_of e ≡ r → Says i e (covered_by calls asks front i (entered calls a p e r))
   zone_says i e s (Err f) q = (refl, s, q)
   zone_says i e s (Ok z) q = empty_says i e z s q (calls.empty z) refl
 
   owed_says : (i : ℕ) (e : Edge) → Says i e (owed calls asks a p front i e)
   owed_says i e = go (eqb e.source p.location) refl
     where
-      go : (t : Bool) → eqb e.source p.location ≡ t → Says i e (cond t (leaned calls asks a p front i e (zone_of e)) (Ok None))
+      go : (t : Bool) → eqb e.source p.location ≡ t → Says i e (covered_by calls asks front i (cond t (entered calls a p e (zone_of e)) (Ok None)))
       go true q = zone_says i e (eqb-true _ _ q) (zone_of e) refl
-      go false q = λ s. apart (sym (eq-eqb _ _ s) ∙ q)
+      go false q = λ s. cc (sym (eq-eqb _ _ s) ∙ q)
 
   -- what the walk over edges from number i on says
   pub record Failing (i : ℕ) (es : List Edge) (stop : Stop) : Type 0 where

@@ -1,20 +1,17 @@
 -- What each call answers, from the tests that it makes.
-use Rattle.std.proofs.Common.{◌≡◌, ℕ, ◌<◌, Bool, true, false, cond, not, eqb, ltb, List, ◌++◌, map, length, get_or, take, drop, set, Ok, Err, Option, Result, sym, refl, ap, ◌∙◌, arith}
+use Rattle.std.proofs.Common.{◌≡◌, ℕ, ◌<◌, Bool, true, false, cond, not, List, ◌++◌, map, length, take, drop, set, Ok, Err, IsErrAnd, MatchResult, Result, sym, refl, ap, ◌∙◌, arith}
 use Rattle.std.proofs.lemmas.List.{length-take, length-map, set-append_left}
-use Rattle.std.proofs.lemmas.Bool.{ltb-true, lt-ltb, and_parts, and_from}
+use Rattle.std.proofs.lemmas.Bool.{ltb-true, lt-ltb, eq-eqb, and_parts, and_from}
 use Rattle.sheet.specs.Automata.{Automaton, location}
 use Rattle.zone.specs.Calls as zones
-use Rattle.book.specs.Calls.{told, kept, stopped, examined, vacant, place, at_hand, fitting, putting, struck, striking, marking, examining, unmarked, least_left, verdict, concluding}
+use Rattle.book.specs.Calls.{told, kept, stopped, examined, vacant, place, at_hand, fitting, putting, struck, striking, marking, examining}
 use Rattle.book.specs.Covering.{walked}
-use Rattle.book.specs.Marks.{none, fresh, unleaned, with_marks, lowest}
+use Rattle.book.specs.Marks.{none, fresh, unleaned, with_marks, IsPlace}
 use Rattle.book.specs.Questions.{Asks}
 use Rattle.book.specs.declared.fault.BookFault.{BookFault}
 use Rattle.book.specs.declared.fault.BookFault.TheVariants as fault
 use Rattle.book.specs.declared.place.Place.{Place}
 use Rattle.book.specs.declared.walk.Stop.{Stop}
-
-not_told : {E : Type 0} {e : E} → ◌≡◌ {A = Result (Unit {0}) E} (Err e) (Ok tt) → ⊥
-not_told p = let z : ◌≡◌ {A = ℕ} 0 1 = cc in omega arith
 
 -- the node after a walk, or the refusal
 abbrev pub walk_result : {Row : Type 0} → Result (List Bool) Stop → Place Row → ℕ → Result (Place Row) BookFault
@@ -23,7 +20,7 @@ walk_result (Err stop) p i = Err (stopped i p.marked stop)
 
 -- a refused call keeps what was there
 pub refused_keeps : {X E : Type 0} (r : Result X E) (e : E) (before : X) → told r ≡ Err e → kept r before ≡ before
-refused_keeps (Ok x) e before p = absurd (not_told (sym p))
+refused_keeps (Ok x) e before p = cc
 refused_keeps (Err d) e before p = refl
 
 module _ {Z Row : Type 0} (calls : zones.Calls Z Row) (asks : Asks) (a : Automaton) (ps : List (Place Row)) (i : ℕ) where
@@ -45,9 +42,9 @@ module _ {Z Row : Type 0} (calls : zones.Calls Z Row) (asks : Asks) (a : Automat
       where
         go : (f s e : Bool) → fitting calls asks a ps i l z ≡ f → (place calls asks a ps i).standing ≡ s → calls.empty z ≡ e
             → (at_hand calls asks a ps i ≡ true) × (putting calls asks a ps i l n z ≡ Ok (set ps i (fresh l n (calls.row z))))
-        go false s e p q r = absurd (not_told (sym (ap told (put_by false s e p q r)) ∙ h))
-        go true true e p q r = absurd (not_told (sym (ap told (put_by true true e p q r)) ∙ h))
-        go true false true p q r = absurd (not_told (sym (ap told (put_by true false true p q r)) ∙ h))
+        go false s e p q r = cc ((sym (ap told (put_by false s e p q r)) ∙ h))
+        go true true e p q r = cc ((sym (ap told (put_by true true e p q r)) ∙ h))
+        go true false true p q r = cc ((sym (ap told (put_by true false true p q r)) ∙ h))
         go true false false p q r = ((and_parts _ _ (and_parts _ _ p).0).0, put_by true false false p q r)
 
   strike_by : (f s : Bool) → at_hand calls asks a ps i ≡ f → (place calls asks a ps i).standing ≡ s → striking calls asks a ps i ≡ cond (not f) (Err fault.OutOfRange) (cond (not s) (Err fault.PlaceVacant) (Ok (struck calls asks a ps i)))
@@ -58,35 +55,36 @@ module _ {Z Row : Type 0} (calls : zones.Calls Z Row) (asks : Asks) (a : Automat
   strike_granted h = go (at_hand calls asks a ps i) (place calls asks a ps i).standing refl refl
     where
       go : (f s : Bool) → at_hand calls asks a ps i ≡ f → (place calls asks a ps i).standing ≡ s → (at_hand calls asks a ps i ≡ true) × (striking calls asks a ps i ≡ Ok (struck calls asks a ps i))
-      go false s p q = absurd (not_told (sym (ap told (strike_by false s p q)) ∙ h))
-      go true false p q = absurd (not_told (sym (ap told (strike_by true false p q)) ∙ h))
+      go false s p q = cc ((sym (ap told (strike_by false s p q)) ∙ h))
+      go true false p q = cc ((sym (ap told (strike_by true false p q)) ∙ h))
       go true true p q = (p, strike_by true true p q)
 
   -- the place that was read
-  module _ (old : Place Row) (here : i < length (take 64 ps)) (is : (d : Place Row) → old ≡ get_or (take 64 ps) i d) where
+  module _ (old : Place Row) (read : IsPlace ps i old) where
     read_is : place calls asks a ps i ≡ old
-    read_is = sym (is (vacant calls asks a))
+    read_is = sym (read.is (vacant calls asks a))
 
     stands : (t : Bool) → old.standing ≡ t → (place calls asks a ps i).standing ≡ t
     stands t e = ap (λ (p : Place Row). p.standing) read_is ∙ e
 
-    pub fits : (l : ℕ) (z : Z) → ltb l (length a.locations) ≡ true → eqb (calls.clocks z) a.clocks ≡ true → fitting calls asks a ps i l z ≡ true
-    fits l z p q = and_from _ _ (and_from _ _ (lt-ltb _ _ here) p) q
+    module _ (l n : ℕ) (z : Z) (located : l < length a.locations) (clocked : calls.clocks z ≡ a.clocks) where
+      fits : fitting calls asks a ps i l z ≡ true
+      fits = and_from _ _ (and_from _ _ (lt-ltb _ _ read.within) (lt-ltb _ _ located)) (eq-eqb _ _ clocked)
 
-    pub put_taken : (l n : ℕ) (z : Z) → fitting calls asks a ps i l z ≡ true → old.standing ≡ true → told (putting calls asks a ps i l n z) ≡ Err (fault.PlaceTaken i)
-    put_taken l n z f s = ap told (put_by l n z true true (calls.empty z) f (stands true s) refl)
+      pub put_taken : old.standing ≡ true → told (putting calls asks a ps i l n z) ≡ Err (fault.PlaceTaken i)
+      put_taken s = ap told (put_by l n z true true (calls.empty z) fits (stands true s) refl)
 
-    pub put_empty : (l n : ℕ) (z : Z) → fitting calls asks a ps i l z ≡ true → old.standing ≡ false → calls.empty z ≡ true → told (putting calls asks a ps i l n z) ≡ Err (fault.EmptyZone i)
-    put_empty l n z f s e = ap told (put_by l n z true false true f (stands false s) e)
+      pub put_empty : old.standing ≡ false → calls.empty z ≡ true → told (putting calls asks a ps i l n z) ≡ Err (fault.EmptyZone i)
+      put_empty s e = ap told (put_by l n z true false true fits (stands false s) e)
 
-    pub put_grants : (l n : ℕ) (z : Z) → fitting calls asks a ps i l z ≡ true → old.standing ≡ false → calls.empty z ≡ false → told (putting calls asks a ps i l n z) ≡ Ok tt
-    put_grants l n z f s e = ap told (put_by l n z true false false f (stands false s) e)
+      pub put_grants : old.standing ≡ false → calls.empty z ≡ false → told (putting calls asks a ps i l n z) ≡ Ok tt
+      put_grants s e = ap told (put_by l n z true false false fits (stands false s) e)
 
     pub strike_vacant : old.standing ≡ false → told (striking calls asks a ps i) ≡ Err fault.PlaceVacant
-    strike_vacant s = ap told (strike_by true false (lt-ltb _ _ here) (stands false s))
+    strike_vacant s = ap told (strike_by true false (lt-ltb _ _ read.within) (stands false s))
 
     pub strike_grants : old.standing ≡ true → told (striking calls asks a ps i) ≡ Ok tt
-    strike_grants s = ap told (strike_by true true (lt-ltb _ _ here) (stands true s))
+    strike_grants s = ap told (strike_by true true (lt-ltb _ _ read.within) (stands true s))
 
   -- the places after a strike, from the two writes that make it
   pub struck_by : (mid after : List (Place Row)) (v : Place Row) → at_hand calls asks a ps i ≡ true → mid ≡ map (unleaned i) (take 64 ps) ++ drop 64 ps → after ≡ set mid i v → v ≡ vacant calls asks a → after ≡ struck calls asks a ps i
@@ -98,25 +96,33 @@ module _ {Z Row : Type 0} (calls : zones.Calls Z Row) (asks : Asks) (a : Automat
       → examining calls asks a ps i ≡ cond (not f) (Err fault.OutOfRange) (cond (not s) (Err fault.PlaceVacant) (cond (not t) (Err (fault.NotAdmitted i)) (marking calls asks a ps i (walked calls asks a (place calls asks a ps i) (take 64 ps) 0 a.edges none))))
   examine_by f s t p q r = λ j. cond (not (p j)) (Err fault.OutOfRange) (cond (not (q j)) (Err fault.PlaceVacant) (cond (not (r j)) (Err (fault.NotAdmitted i)) (marking calls asks a ps i (walked calls asks a (place calls asks a ps i) (take 64 ps) 0 a.edges none))))
 
-  module _ (old : Place Row) (here : i < length (take 64 ps)) (is : (d : Place Row) → old ≡ get_or (take 64 ps) i d) where
+  module _ (old : Place Row) (read : IsPlace ps i old) where
     pub examine_vacant : old.standing ≡ false → examining calls asks a ps i ≡ Err fault.PlaceVacant
-    examine_vacant s = examine_by true false _ (lt-ltb _ _ here) (stands old here is false s) refl
+    examine_vacant s = examine_by true false _ (lt-ltb _ _ read.within) (stands old read false s) refl
 
     admits_is : (t : Bool) → asks.admits (location a old.location).accepting old.number ≡ t → asks.admits (location a (place calls asks a ps i).location).accepting (place calls asks a ps i).number ≡ t
-    admits_is t e = ap (λ (p : Place Row). asks.admits (location a p.location).accepting p.number) (read_is old here is) ∙ e
+    admits_is t e = ap (λ (p : Place Row). asks.admits (location a p.location).accepting p.number) (read_is old read) ∙ e
 
     pub examine_unadmitted : old.standing ≡ true → asks.admits (location a old.location).accepting old.number ≡ false → examining calls asks a ps i ≡ Err (fault.NotAdmitted i)
-    examine_unadmitted s e = examine_by true true false (lt-ltb _ _ here) (stands old here is true s) (admits_is false e)
+    examine_unadmitted s e = examine_by true true false (lt-ltb _ _ read.within) (stands old read true s) (admits_is false e)
 
     marked_as : (r : Result (List Bool) Stop) → marking calls asks a ps i r ≡ examined ps i (walk_result r old i)
-    marked_as (Ok leans) = ap (λ (p : Place Row). Ok (set ps i (with_marks true leans p))) (read_is old here is)
-    marked_as (Err stop) = ap (λ (p : Place Row). Err (stopped i p.marked stop)) (read_is old here is)
+    marked_as (Ok leans) = ap (λ (p : Place Row). Ok (set ps i (with_marks true leans p))) (read_is old read)
+    marked_as (Err stop) = ap (λ (p : Place Row). Err (stopped i p.marked stop)) (read_is old read)
 
     pub examine_walks : old.standing ≡ true → asks.admits (location a old.location).accepting old.number ≡ true → (front : List (Place Row)) → front ≡ take 64 ps → (r : Result (List Bool) Stop) → r ≡ walked calls asks a old front 0 a.edges none → examining calls asks a ps i ≡ examined ps i (walk_result r old i)
     examine_walks s e front f r w =
-        examine_by true true true (lt-ltb _ _ here) (stands old here is true s) (admits_is true e)
-        ∙ ap (marking calls asks a ps i) (ap (λ (p : Place Row). walked calls asks a p (take 64 ps) 0 a.edges none) (read_is old here is) ∙ ap (λ (l : List (Place Row)). walked calls asks a old l 0 a.edges none) (sym f) ∙ sym w)
+        examine_by true true true (lt-ltb _ _ read.within) (stands old read true s) (admits_is true e)
+        ∙ ap (marking calls asks a ps i) (ap (λ (p : Place Row). walked calls asks a p (take 64 ps) 0 a.edges none) (read_is old read) ∙ ap (λ (l : List (Place Row)). walked calls asks a old l 0 a.edges none) (sym f) ∙ sym w)
         ∙ marked_as r
+
+    -- what the walk gave, with the refusal that its stop is
+    pub walk_named : (P : Stop → BookFault → Type 0) → ((stop : Stop) (e : BookFault) → P stop e → e ≡ stopped i old.marked stop) → (r : Result (List Bool) Stop) (m : Result (List Bool) BookFault)
+        → MatchResult r (λ leans. m ≡ Ok leans) (λ stop. IsErrAnd m (P stop)) → MatchResult m (λ leans. walk_result r old i ≡ Ok (with_marks true leans old)) (λ e. walk_result r old i ≡ Err e)
+    walk_named P named (Ok leans) (Ok same) is = cc
+    walk_named P named (Ok leans) (Err e) is = cc
+    walk_named P named (Err stop) (Ok leans) is = absurd is
+    walk_named P named (Err stop) (Err e) is = ap Err (sym (named stop e is))
 
   -- an examine that is granted
   pub examine_granted : (qs : List (Place Row)) → Ok qs ≡ examining calls asks a ps i → at_hand calls asks a ps i ≡ true
@@ -125,7 +131,3 @@ module _ {Z Row : Type 0} (calls : zones.Calls Z Row) (asks : Asks) (a : Automat
       go : (t : Bool) → at_hand calls asks a ps i ≡ t → t ≡ true
       go true e = refl
       go false e = let out = examine_by false _ _ e refl refl in let z : Ok qs ≡ Err fault.OutOfRange = h ∙ out in cc
-
--- what the two searches over the front give
-pub concluded_by : {Z Row : Type 0} (calls : zones.Calls Z Row) (asks : Asks) (a : Automaton) (ps front : List (Place Row)) (o u : Option ℕ) → front ≡ take 64 ps → o ≡ least_left calls asks a front → u ≡ lowest unmarked 0 front → verdict o u ≡ concluding calls asks a ps
-concluded_by calls asks a ps front o u f p q = λ j. verdict ((p ∙ ap (least_left calls asks a) f) j) ((q ∙ ap (lowest unmarked 0) f) j)

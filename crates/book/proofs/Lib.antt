@@ -3,11 +3,8 @@ pub mod Reaching
 pub mod Walks
 pub mod Standing
 pub mod Simulation
-pub mod Searching
-pub mod Folding
 pub mod Walking
 pub mod Judging
 pub mod Least
-pub mod Histories
 pub mod Exactly
 pub mod Answering

@@ -20,7 +20,7 @@ eqb_self n = eq-eqb n n refl
 -- an `and_then` that is granted
 pub then_ok : {X Y E : Type 0} (r : Result X E) (f : X → Result Y E) (y : Y) → and_then r f ≡ Ok y → (x : X) × (r ≡ Ok x) × (f x ≡ Ok y)
 then_ok (Ok x) f y p = (x, refl, p)
-then_ok (Err e) f y p = absurd (let z : ◌≡◌ {A = ℕ} 0 1 = cc in omega arith)
+then_ok (Err e) f y p = cc
 
 reads_at_most : (v : Valuation) (x : ℕ) → reading v x ≤ v x
 reads_at_most v x = go (eqb x 0)

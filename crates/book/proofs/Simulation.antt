@@ -1,5 +1,5 @@
 -- A concluded book bounds the visits of every run.
-use Rattle.std.proofs.Common.{◌≡◌, ℕ, suc, ◌+◌, ◌<◌, ◌≤◌, min, Bool, true, false, cond, ◌⊎◌, List, [], ◌∷◌, get_or, take, IfOk, Some, None, Ok, Err, Option, Result, sym, refl, ap, ◌∙◌, subst, inl, inr, ⊎_elim, arith}
+use Rattle.std.proofs.Common.{◌≡◌, ℕ, suc, ◌+◌, ◌<◌, ◌≤◌, min, Bool, true, false, cond, ◌⊎◌, List, [], ◌∷◌, get_or, take, IfOk, Some, None, Ok, Err, Option, Result, position, sym, refl, ap, ◌∙◌, subst, inl, inr, ⊎_elim, arith}
 use Rattle.std.proofs.lemmas.Bool.{eqb-true, and_parts, cases_lt}
 use Rattle.std.specs.List.{ContainsAt, AllByRecursion}
 use Rattle.sheet.specs.Automata.{Automaton, Edge, location}
@@ -8,7 +8,6 @@ use Rattle.zone.specs.Calls as zones
 use Rattle.zone.specs.Laws.{Laws}
 use Rattle.book.specs.Calls.{vacant, opened, place, covers_start, least_left, lesser, unmarked, verdict, concluding, played}
 use Rattle.book.specs.Covering.{covers}
-use Rattle.book.specs.Marks.{lowest}
 use Rattle.book.specs.Questions.{Asks, Keeps}
 use Rattle.book.specs.Standing.{accepting_at, Held, Right, Sound}
 use Rattle.book.specs.declared.call.Call.{Call}
@@ -16,7 +15,7 @@ use Rattle.book.specs.declared.fault.BookFault.{BookFault}
 use Rattle.book.specs.declared.place.Place.{Place}
 use Rattle.book.proofs.Reaching.{followed_holds}
 use Rattle.book.proofs.Standing.{history_sound}
-use Rattle.book.proofs.Walks.{lowest_none}
+use Rattle.book.proofs.Walks.{none_passes}
 
 cases_le : (m n : ℕ) → (m ≤ n) ⊎ (n ≤ m)
 cases_le m n = ⊎_elim (λ (h : m < n). inl (omega arith)) (λ (h : n ≤ m). inr h) (cases_lt m n)
@@ -24,7 +23,7 @@ cases_le m n = ⊎_elim (λ (h : m < n). inl (omega arith)) (λ (h : n ≤ m). i
 module _ {Z Row : Type 0} (calls : zones.Calls Z Row) (asks : Asks) (a : Automaton) where
   -- the least left is that of a place that covers the start
   pub least_found : (ps : List (Place Row)) (n : ℕ) → least_left calls asks a ps ≡ Some n → (m : ℕ) × (covers_start calls a (get_or ps m (vacant calls asks a)) ≡ true) × (asks.left (get_or ps m (vacant calls asks a)).number ≡ n)
-  least_found [] n p = absurd (let z : ◌≡◌ {A = ℕ} 0 1 = cc in omega arith)
+  least_found [] n p = cc
   least_found (q ∷ ps) n p = go (covers_start calls a q) refl (least_left calls asks a ps) refl p (least_found ps)
     where
       go : (t : Bool) → covers_start calls a q ≡ t → (o : Option ℕ) → least_left calls asks a ps ≡ o → cond t (Some (lesser (asks.left q.number) o)) o ≡ Some n
@@ -38,12 +37,12 @@ module _ {Z Row : Type 0} (calls : zones.Calls Z Row) (asks : Asks) (a : Automat
           ⊎_elim (λ (below : asks.left q.number ≤ m). (0, e, omega arith)) (λ (above : m ≤ asks.left q.number). (suc r.0, r.1, omega (arith, r.2))) (cases_le (asks.left q.number) m)
 
   verdict_some : (o u : Option ℕ) (n : ℕ) → verdict o u ≡ Ok n → (o ≡ Some n) × (u ≡ None)
-  verdict_some None u n p = absurd (let z : ◌≡◌ {A = ℕ} 0 1 = cc in omega arith)
+  verdict_some None u n p = cc
   verdict_some (Some m) None n p = (cc, refl)
-  verdict_some (Some m) (Some i) n p = absurd (let z : ◌≡◌ {A = ℕ} 0 1 = cc in omega arith)
+  verdict_some (Some m) (Some i) n p = cc
 
   module _ (laws : Laws calls) (keeps : Keeps asks) (ps : List (Place Row)) (n : ℕ) (sound : Sound calls asks a ps) (concluded : concluding calls asks a ps ≡ Ok n) where
-    granted : (least_left calls asks a (take 64 ps) ≡ Some n) × (lowest (unmarked) 0 (take 64 ps) ≡ None)
+    granted : (least_left calls asks a (take 64 ps) ≡ Some n) × (position unmarked (take 64 ps) ≡ None)
     granted = verdict_some _ _ n concluded
 
     -- every node that stands is right
@@ -51,7 +50,7 @@ module _ {Z Row : Type 0} (calls : zones.Calls Z Row) (asks : Asks) (a : Automat
     all_right i s = sound i s (marked (place calls asks a ps i).marked refl)
       where
         no : unmarked (place calls asks a ps i) ≡ false
-        no = lowest_none (vacant calls asks a) (unmarked) refl 0 (take 64 ps) granted.1 i
+        no = none_passes (vacant calls asks a) unmarked refl (take 64 ps) granted.1 i
 
         marked : (t : Bool) → (place calls asks a ps i).marked ≡ t → t ≡ true
         marked true e = refl

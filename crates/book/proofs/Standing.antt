@@ -15,7 +15,8 @@ use Rattle.book.specs.declared.call.Call.TheVariants.{Put, Strike, Examine, Conc
 use Rattle.book.specs.declared.fault.BookFault.TheVariants as fault
 use Rattle.book.specs.declared.place.Place.{Place}
 use Rattle.book.specs.declared.walk.Stop.{Stop}
-use Rattle.book.proofs.Fronts.{take_of_set, take_of_front, getD_of_set, getD_of_map}
+use Rattle.std.proofs.Math.ListN.{get_or-map}
+use Rattle.book.proofs.Fronts.{take_of_set, take_of_front, getD_of_set}
 use Rattle.book.proofs.Walks.{Kept, Walked, walk}
 
 -- what a place shows to those that lean on it
@@ -27,9 +28,6 @@ pub record Same {Row : Type 0} (p q : Place Row) : Type 0 where
 
 same_as : {Row : Type 0} (p q : Place Row) → p ≡ q → Same p q
 same_as p q e = record { standing = ap (λ (x : Place _). x.standing) e; location = ap (λ (x : Place _). x.location) e; number = ap (λ (x : Place _). x.number) e; zone = ap (λ (x : Place _). x.zone) e }
-
-false_true : {A : Type 0} → false ≡ true → A
-false_true p = absurd (let z : ◌≡◌ {A = ℕ} 0 1 = cc in omega arith)
 
 all_false : (n i : ℕ) → get_or (replicate n false) i false ≡ false
 all_false zero i = refl
@@ -106,7 +104,7 @@ module _ {Z Row : Type 0} (calls : zones.Calls Z Row) (asks : Asks) (a : Automat
     where
       hollow : (t : Bool) → (place calls asks a ps i).standing ≡ false → at_hand calls asks a ps i ≡ true → Sound calls asks a (kept (cond t (Err (fault.EmptyZone i)) (Ok (set ps i (fresh l n (calls.row z))))) ps)
       hollow true v h = sound
-      hollow false v h = set_sound ps i (fresh l n (calls.row z)) h sound (λ s. false_true (sym v ∙ s)) (λ s m. false_true m)
+      hollow false v h = set_sound ps i (fresh l n (calls.row z)) h sound (λ s. cc (sym v ∙ s)) (λ s m. cc m)
 
       free : (t : Bool) → (place calls asks a ps i).standing ≡ t → at_hand calls asks a ps i ≡ true → Sound calls asks a (kept (cond t (Err (fault.PlaceTaken i)) (cond (calls.empty z) (Err (fault.EmptyZone i)) (Ok (set ps i (fresh l n (calls.row z)))))) ps)
       free true v h = sound
@@ -123,7 +121,7 @@ module _ {Z Row : Type 0} (calls : zones.Calls Z Row) (asks : Asks) (a : Automat
       let within : i < length front = omega (arith, ltb-true _ _ h, length-map (take 64 ps) (unleaned i)) in
       ap (λ (l : List (Place Row)). get_or l k (vacant calls asks a)) (take_of_front 64 (set front i (vacant calls asks a)) ps long)
       ∙ getD_of_set front i (vacant calls asks a) (vacant calls asks a) k within
-      ∙ ap (cond (eqb k i) (vacant calls asks a)) (ap (get_or front k) (sym (vacant_unleaned i)) ∙ getD_of_map (unleaned i) (take 64 ps) k (vacant calls asks a))
+      ∙ ap (cond (eqb k i) (vacant calls asks a)) (ap (get_or front k) (sym (vacant_unleaned i)) ∙ get_or-map (unleaned i) (take 64 ps) k (vacant calls asks a))
 
   struck_sound : (ps : List (Place Row)) (i : ℕ) → at_hand calls asks a ps i ≡ true → Sound calls asks a ps → Sound calls asks a (struck calls asks a ps i)
   struck_sound ps i h sound k = at (eqb k i) refl
@@ -132,20 +130,20 @@ module _ {Z Row : Type 0} (calls : zones.Calls Z Row) (asks : Asks) (a : Automat
       qs = struck calls asks a ps i
 
       shows : (p : Place Row) → get_or p.leans i false ≡ false → (j : ℕ) → get_or p.leans j false ≡ true → (t : Bool) → eqb j i ≡ t → Same (cond t (vacant calls asks a) (unleaned i (place calls asks a ps j))) (place calls asks a ps j)
-      shows p free j l true e = false_true (sym (subst (λ (m : ℕ). get_or p.leans m false ≡ false) (sym (eqb-true j i e)) free) ∙ l)
+      shows p free j l true e = cc (sym (subst (λ (m : ℕ). get_or p.leans m false ≡ false) (sym (eqb-true j i e)) free) ∙ l)
       shows p free j l false e = unleaned_same i (place calls asks a ps j)
 
       kept_right : (p : Place Row) → get_or p.leans i false ≡ false → Right calls asks a ps p → Right calls asks a (struck calls asks a ps i) p
       kept_right p free r = right_kept ps (struck calls asks a ps i) p (λ j l s. subst (λ (q : Place Row). Same q (place calls asks a ps j)) (sym (place_struck ps i j h)) (shows p free j l (eqb j i) refl)) r
 
       left : (p : Place Row) → (p.standing ≡ true → p.marked ≡ true → Right calls asks a ps p) → (t : Bool) → get_or p.leans i false ≡ t → (cond t (with_marks false none p) p).standing ≡ true → (cond t (with_marks false none p) p).marked ≡ true → Right calls asks a (struck calls asks a ps i) (cond t (with_marks false none p) p)
-      left p r true e s m = false_true m
+      left p r true e s m = cc m
       left p r false e s m = kept_right p e (r s m)
 
       at : (t : Bool) → eqb k i ≡ t → (place calls asks a (struck calls asks a ps i) k).standing ≡ true → (place calls asks a (struck calls asks a ps i) k).marked ≡ true → Right calls asks a (struck calls asks a ps i) (place calls asks a (struck calls asks a ps i) k)
       at true e s m =
           let is : place calls asks a (struck calls asks a ps i) k ≡ vacant calls asks a = place_struck ps i k h ∙ cond-true (eqb k i) (vacant calls asks a) (unleaned i (place calls asks a ps k)) e in
-          false_true (ap (λ (q : Place Row). q.standing) (sym is) ∙ s)
+          cc (ap (λ (q : Place Row). q.standing) (sym is) ∙ s)
       at false e s m =
           let is : place calls asks a (struck calls asks a ps i) k ≡ unleaned i (place calls asks a ps k) = place_struck ps i k h ∙ cond-false (eqb k i) (vacant calls asks a) (unleaned i (place calls asks a ps k)) e in
           subst (Right calls asks a (struck calls asks a ps i)) (sym is)
@@ -205,8 +203,8 @@ module _ {Z Row : Type 0} (calls : zones.Calls Z Row) (asks : Asks) (a : Automat
   opened_sound ps i s m =
       let v = vacant calls asks a in
       let front : take 64 (opened calls asks a ps) ≡ map (λ (p : Place Row). v) (take 64 ps) = take_of_front 64 (map (λ (p : Place Row). v) (take 64 ps)) ps (length-map (take 64 ps) (λ (p : Place Row). v)) in
-      let is : place calls asks a (opened calls asks a ps) i ≡ v = ap (λ (l : List (Place Row)). get_or l i v) front ∙ getD_of_map (λ (p : Place Row). v) (take 64 ps) i v in
-      false_true (ap (λ (q : Place Row). q.standing) (sym is) ∙ s)
+      let is : place calls asks a (opened calls asks a ps) i ≡ v = ap (λ (l : List (Place Row)). get_or l i v) front ∙ get_or-map (λ (p : Place Row). v) (take 64 ps) i v in
+      cc (ap (λ (q : Place Row). q.standing) (sym is) ∙ s)
 
   done_sound : (c : Call Z) (ps : List (Place Row)) → Sound calls asks a ps → Sound calls asks a (done calls asks a c ps)
   done_sound (Put i l n z) ps sound = put_sound ps i l n z sound

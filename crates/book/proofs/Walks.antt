@@ -1,43 +1,30 @@
 -- What the walk over a node's edges has found when it ends.
-use Rattle.std.proofs.Common.{◌≡◌, ℕ, zero, suc, ◌+◌, ◌<◌, ◌≤◌, Bool, true, false, cond, eqb, ◌⊎◌, List, [], ◌∷◌, length, get_or, set, Some, None, Ok, Err, Option, Result, sym, refl, ◌∙◌, subst, inl, inr, arith}
+use Rattle.std.proofs.Common.{◌≡◌, ℕ, zero, suc, ◌<◌, ◌≤◌, Bool, true, false, cond, eqb, ◌⊎◌, List, [], ◌∷◌, length, get_or, set, Some, None, Ok, Err, Option, Result, position, sym, refl, ap, ◌∙◌, subst, inl, inr, ⊎_elim, arith}
 use Rattle.std.proofs.lemmas.List.{length-set}
-use Rattle.std.proofs.lemmas.Bool.{eq-eqb, eqb-true, cond-true}
+use Rattle.std.specs.List.{position_or_len}
+use Rattle.std.proofs.lemmas.List.Quantifiers.{position-Some}
+use Rattle.std.proofs.lemmas.List.Sums.{fails_before_first}
+use Rattle.std.proofs.lemmas.Grind.{common_steps}
+use Rattle.std.proofs.Math.ListN.{get_or-eq_default}
+use Rattle.std.proofs.lemmas.Bool.{eq-eqb, eqb-true, cond-true, cases_lt}
 use Rattle.sheet.specs.Automata.{Automaton, Edge}
 use Rattle.zone.specs.Calls as zones
 use Rattle.zone.specs.declared.fault.ZoneFault.{ZoneFault}
-use Rattle.book.specs.Covering.{on_with, covers, found, leaned, owed, walked}
+use Rattle.book.specs.Covering.{on_with, covers, found, covered_by, entered, owed, walked}
 use Rattle.book.specs.Following.{followed}
-use Rattle.book.specs.Marks.{lowest}
 use Rattle.book.specs.Questions.{Asks}
 use Rattle.book.specs.Standing.{accepting_at}
 use Rattle.book.specs.declared.place.Place.{Place}
 use Rattle.book.specs.declared.walk.Stop.{Stop}
 use Rattle.book.proofs.Fronts.{getD_of_set}
 
-ok_err : {X E : Type 0} {x : X} {e : E} → ◌≡◌ {A = Result X E} (Err e) (Ok x) → ⊥
-ok_err p = let z : ◌≡◌ {A = ℕ} 0 1 = cc in omega arith
-
-module _ {Row : Type 0} (v : Place Row) (test : Place Row → Bool) where
-  -- the lowest place passes the test
-  pub lowest_some : (i : ℕ) (ps : List (Place Row)) (j : ℕ) → lowest test i ps ≡ Some j → (m : ℕ) × (j ≡ i + m) × (m < length ps) × (test (get_or ps m v) ≡ true)
-  lowest_some i [] j p = absurd (let z : ◌≡◌ {A = ℕ} 0 1 = cc in omega arith)
-  lowest_some i (q ∷ ps) j p = go (test q) refl p (lowest_some (suc i) ps j)
-    where
-      go : (t : Bool) → test q ≡ t → cond t (Some i) (lowest test (suc i) ps) ≡ Some j
-          → (lowest test (suc i) ps ≡ Some j → (m : ℕ) × (j ≡ suc i + m) × (m < length ps) × (test (get_or ps m v) ≡ true))
-          → (m : ℕ) × (j ≡ i + m) × (m < length (q ∷ ps)) × (test (get_or (q ∷ ps) m v) ≡ true)
-      go true e h ih = let same : i ≡ j = cc in (0, omega arith, omega arith, e)
-      go false e h ih = let r = ih h in (suc r.0, omega (arith, r.1), omega (arith, r.2), r.3)
-
-  -- where there is no lowest one, none passes
-  pub lowest_none : test v ≡ false → (i : ℕ) (ps : List (Place Row)) → lowest test i ps ≡ None → (m : ℕ) → test (get_or ps m v) ≡ false
-  lowest_none d i [] p m = d
-  lowest_none d i (q ∷ ps) p m = go (test q) refl p m (lowest_none d (suc i) ps)
-    where
-      go : (t : Bool) → test q ≡ t → cond t (Some i) (lowest test (suc i) ps) ≡ None → (m : ℕ) → (lowest test (suc i) ps ≡ None → (m : ℕ) → test (get_or ps m v) ≡ false) → test (get_or (q ∷ ps) m v) ≡ false
-      go true e h m ih = cc
-      go false e h zero ih = e
-      go false e h (suc m) ih = ih h m
+-- where no place passes a test, none does that is read with a default
+pub none_passes : {Row : Type 0} (v : Place Row) (test : Place Row → Bool) → test v ≡ false → (ps : List (Place Row)) → position test ps ≡ None → (m : ℕ) → test (get_or ps m v) ≡ false
+none_passes v test d ps none m =
+    ⊎_elim
+    (λ (h : m < length ps). let over : length ps ≤ position_or_len test ps = grind (arith, common_steps) in fails_before_first test ps m v (omega arith))
+    (λ (h : length ps ≤ m). rw get_or-eq_default d)
+    (cases_lt m (length ps))
 
 module _ {Z Row : Type 0} (calls : zones.Calls Z Row) (asks : Asks) (a : Automaton) where
   module _ (v : Place Row) (p : Place Row) (ps : List (Place Row)) where
@@ -46,27 +33,26 @@ module _ {Z Row : Type 0} (calls : zones.Calls Z Row) (asks : Asks) (a : Automat
     Covered e z None = calls.empty z ≡ true
     Covered e z (Some j) = (j < length ps) × (covers calls asks (accepting_at calls asks a p) p.number e.target z (get_or ps j v) ≡ true)
 
-    found_covered : (i : ℕ) (e : Edge) (z : Z) (o : Option ℕ) (r : Option ℕ) → lowest (covers calls asks (accepting_at calls asks a p) p.number e.target z) 0 ps ≡ o → found i o ≡ Ok r → Covered e z r
-    found_covered i e z None r l h = absurd (ok_err h)
+    found_covered : (i : ℕ) (e : Edge) (z : Z) (o : Option ℕ) (r : Option ℕ) → position (covers calls asks (accepting_at calls asks a p) p.number e.target z) ps ≡ o → found i o ≡ Ok r → Covered e z r
+    found_covered i e z None r l h = cc
     found_covered i e z (Some j) r l h =
         let same : Some j ≡ r = cc in
-        let low = lowest_some v (covers calls asks (accepting_at calls asks a p) p.number e.target z) 0 ps j l in
-        let at : low.0 ≡ j = omega (arith, low.1) in
-        subst (Covered e z) same (subst (λ (m : ℕ). (m < length ps) × (covers calls asks (accepting_at calls asks a p) p.number e.target z (get_or ps m v) ≡ true)) at (low.2, low.3))
+        let low = position-Some (covers calls asks (accepting_at calls asks a p) p.number e.target z) ps j v l in
+        subst (Covered e z) same (low.0, low.1)
 
     empty_covered : (i : ℕ) (e : Edge) (z : Z) (r : Option ℕ) (t : Bool) → calls.empty z ≡ t
-        → cond t (Ok None) (found i (lowest (covers calls asks (accepting_at calls asks a p) p.number e.target z) 0 ps)) ≡ Ok r → Covered e z r
+        → covered_by calls asks ps i (cond t (Ok None) (Ok (Some (record { accepting = accepting_at calls asks a p; number = p.number; target = e.target; zone = z })))) ≡ Ok r → Covered e z r
     empty_covered i e z r true q h = let same : None ≡ r = cc in subst (Covered e z) same q
-    empty_covered i e z r false q h = found_covered i e z (lowest (covers calls asks (accepting_at calls asks a p) p.number e.target z) 0 ps) r refl h
+    empty_covered i e z r false q h = found_covered i e z (position (covers calls asks (accepting_at calls asks a p) p.number e.target z) ps) r refl h
 
-    leaned_covered : (i : ℕ) (e : Edge) (r : Option ℕ) (f : Result Z ZoneFault) → followed calls a (calls.of_row p.zone) e ≡ f → leaned calls asks a p ps i e f ≡ Ok r → (z : Z) × (followed calls a (calls.of_row p.zone) e ≡ Ok z) × Covered e z r
-    leaned_covered i e r (Err x) q h = absurd (ok_err h)
-    leaned_covered i e r (Ok z) q h = (z, q, empty_covered i e z r (calls.empty z) refl h)
+    entered_covered : (i : ℕ) (e : Edge) (r : Option ℕ) (f : Result Z ZoneFault) → followed calls a (calls.of_row p.zone) e ≡ f → covered_by calls asks ps i (entered calls a p e f) ≡ Ok r → (z : Z) × (followed calls a (calls.of_row p.zone) e ≡ Ok z) × Covered e z r
+    entered_covered i e r (Err x) q h = cc
+    entered_covered i e r (Ok z) q h = (z, q, empty_covered i e z r (calls.empty z) refl h)
 
     owed_covered : (i : ℕ) (e : Edge) (r : Option ℕ) → owed calls asks a p ps i e ≡ Ok r → e.source ≡ p.location → (z : Z) × (followed calls a (calls.of_row p.zone) e ≡ Ok z) × Covered e z r
     owed_covered i e r h s =
-        leaned_covered i e r (followed calls a (calls.of_row p.zone) e) refl
-        (sym (cond-true (eqb e.source p.location) (leaned calls asks a p ps i e (followed calls a (calls.of_row p.zone) e)) (Ok None) (eq-eqb _ _ s)) ∙ h)
+        entered_covered i e r (followed calls a (calls.of_row p.zone) e) refl
+        (sym (ap (covered_by calls asks ps i) (cond-true (eqb e.source p.location) (entered calls a p e (followed calls a (calls.of_row p.zone) e)) (Ok None) (eq-eqb _ _ s))) ∙ h)
 
     -- edge e leads to an empty zone, or to one that a place of these leans covers
     abbrev pub Kept : List Bool → Edge → Type 0
@@ -89,9 +75,9 @@ module _ {Z Row : Type 0} (calls : zones.Calls Z Row) (asks : Asks) (a : Automat
     pub owed_within : (i : ℕ) (e : Edge) (j : ℕ) → owed calls asks a p ps i e ≡ Ok (Some j) → j < length ps
     owed_within i e j h = go (eqb e.source p.location) refl h
       where
-        go : (t : Bool) → eqb e.source p.location ≡ t → cond t (leaned calls asks a p ps i e (followed calls a (calls.of_row p.zone) e)) (Ok None) ≡ Ok (Some j) → j < length ps
+        go : (t : Bool) → eqb e.source p.location ≡ t → covered_by calls asks ps i (cond t (entered calls a p e (followed calls a (calls.of_row p.zone) e)) (Ok None)) ≡ Ok (Some j) → j < length ps
         go true q g = (owed_covered i e (Some j) h (eqb-true _ _ q)).2.0
-        go false q g = absurd (let z : ◌≡◌ {A = ℕ} 0 1 = cc in omega arith)
+        go false q g = cc
 
     kept_by : (i : ℕ) (e : Edge) (mid leans : List Bool) (o : Option ℕ) → ((j : ℕ) → o ≡ Some j → get_or mid j false ≡ true) → ((j : ℕ) → get_or mid j false ≡ true → get_or leans j false ≡ true) → (r : (z : Z) × (followed calls a (calls.of_row p.zone) e ≡ Ok z) × Covered e z o) → Kept leans e
     kept_by i e mid leans None leant up r = (r.0, r.1, inl r.2)
@@ -108,9 +94,9 @@ module _ {Z Row : Type 0} (calls : zones.Calls Z Row) (asks : Asks) (a : Automat
     walk_on : (few : length ps ≤ 64) (i : ℕ) (e : Edge) (es : List Edge) (before leans : List Bool) → length before ≡ 64
         → ((mid : List Bool) → length mid ≡ 64 → walked calls asks a p ps (suc i) es mid ≡ Ok leans → Walked es mid leans)
         → (o : Result (Option ℕ) Stop) → owed calls asks a p ps i e ≡ o → on_with o before (walked calls asks a p ps (suc i) es) ≡ Ok leans → Walked (e ∷ es) before leans
-    walk_on few i e es before leans long ih (Err s) q h = absurd (ok_err h)
+    walk_on few i e es before leans long ih (Err s) q h = cc
     walk_on few i e es before leans long ih (Ok None) q h =
-        walk_more i e es before before leans None q (λ j g. g) (λ j n. absurd (let z : ◌≡◌ {A = ℕ} 0 1 = cc in omega arith)) (ih before long h)
+        walk_more i e es before before leans None q (λ j g. g) (λ j n. cc) (ih before long h)
     walk_on few i e es before leans long ih (Ok (Some j)) q h =
         let within : j < length before = omega (arith, owed_within i e j q) in
         walk_more i e es before (set before j true) leans (Some j) q

@@ -1,9 +1,9 @@
 -- What each call answers and leaves, and the places that a list of calls leaves.
-use Rattle.std.specs.Prelude.{ℕ, min, Bool, true, cond, not, ◌&&◌, List, [], ◌∷◌, ◌++◌, map, length, take, drop, Some, None, Ok, Err, Option, Result, ◌==◌, nat_lt, slice_index_or, slice_set}
+use Rattle.std.specs.Prelude.{ℕ, min, Bool, true, cond, not, ◌&&◌, List, [], ◌∷◌, ◌++◌, map, length, take, drop, Some, None, Ok, Err, Option, Result, ◌==◌, nat_lt, position, slice_index_or, slice_set}
 use Rattle.sheet.specs.Automata.{Automaton, location}
 use Rattle.zone.specs.Calls as zones
 use Rattle.book.specs.Covering.{walked}
-use Rattle.book.specs.Marks.{none, fresh, vacant_with, with_marks, unleaned, lowest}
+use Rattle.book.specs.Marks.{none, fresh, vacant_with, with_marks, unleaned}
 use Rattle.book.specs.Questions.{Asks}
 use Rattle.book.specs.declared.call.Call.{Call}
 use Rattle.book.specs.declared.call.Call.TheVariants.{Put, Strike, Examine, Conclude}
@@ -105,7 +105,7 @@ module _ {Z Row : Type 0} (calls : zones.Calls Z Row) (asks : Asks) (a : Automat
   least_left (p ∷ ps) = cond (covers_start calls a p) (Some (lesser (asks.left p.number) (least_left ps))) (least_left ps)
 
   abbrev pub concluding : List (Place Row) → Result ℕ BookFault
-  concluding ps = verdict (least_left (take 64 ps)) (lowest unmarked 0 (take 64 ps))
+  concluding ps = verdict (least_left (take 64 ps)) (position unmarked (take 64 ps))
 
   -- the places after a call
   abbrev pub done : Call Z → List (Place Row) → List (Place Row)

@@ -1,11 +1,11 @@
 -- Which place covers a zone, and what a node's edges lean on.
-use Rattle.std.specs.Prelude.{ℕ, suc, Bool, true, cond, ◌&&◌, List, [], ◌∷◌, Some, None, Ok, Err, Option, Result, ◌==◌, slice_set}
+use Rattle.std.specs.Prelude.{ℕ, suc, Bool, true, cond, ◌&&◌, List, [], ◌∷◌, Some, None, Ok, Err, Option, Result, ◌==◌, position, slice_set}
 use Rattle.sheet.specs.Automata.{Automaton, Edge, location}
 use Rattle.zone.specs.Calls.{Calls}
 use Rattle.zone.specs.declared.fault.ZoneFault.{ZoneFault}
 use Rattle.book.specs.Following.{followed}
-use Rattle.book.specs.Marks.{lowest}
 use Rattle.book.specs.Questions.{Asks}
+use Rattle.book.specs.declared.cover.Step.{Step}
 use Rattle.book.specs.declared.place.Place.{Place}
 use Rattle.book.specs.declared.walk.Stop.{Stop}
 use Rattle.book.specs.declared.walk.Stop.TheVariants.{Uncovered, Refused}
@@ -25,21 +25,32 @@ abbrev pub found : ℕ → Option ℕ → Result (Option ℕ) Stop
 found i None = Err (Uncovered i)
 found i (Some j) = Ok (Some j)
 
+module _ {Z Row : Type 0} (calls : Calls Z Row) (a : Automaton) (p : Place Row) (e : Edge) where
+  -- the step from node p along edge e, given the zone that it leads to; none where that is empty
+  abbrev pub entered : Result Z ZoneFault → Result (Option (Step Z)) ZoneFault
+  entered (Err fault) = Err fault
+  entered (Ok z) = cond (calls.empty z) (Ok None) (Ok (Some (record { accepting = (location a p.location).accepting; number = p.number; target = e.target; zone = z })))
+
+  -- the step along any edge: none along one from another location
+  abbrev pub stepped : Result (Option (Step Z)) ZoneFault
+  stepped = cond (e.source == p.location) (entered (followed calls a (calls.of_row p.zone) e)) (Ok None)
+
 module _ {Z Row : Type 0} (calls : Calls Z Row) (asks : Asks) where
   -- the place stands at the target, the step from a node with this number passes, and its zone contains z
   abbrev pub covers : (accepting : Bool) (number target : ℕ) → Z → Place Row → Bool
   covers accepting number target z p =
       p.standing && p.location == target && asks.passes accepting number p.number && calls.within z (calls.of_row p.zone)
 
-  module _ (a : Automaton) where
-    -- the place that edge i of node p leans on, given the zone that it leads to; none where that is empty
-    abbrev pub leaned : Place Row → List (Place Row) → ℕ → Edge → Result Z ZoneFault → Result (Option ℕ) Stop
-    leaned p ps i e (Err fault) = Err (Refused fault i)
-    leaned p ps i e (Ok z) = cond (calls.empty z) (Ok None) (found i (lowest (covers (location a p.location).accepting p.number e.target z) 0 ps))
+  -- the first place that covers the step along edge i, or a stop there
+  abbrev pub covered_by : List (Place Row) → ℕ → Result (Option (Step Z)) ZoneFault → Result (Option ℕ) Stop
+  covered_by ps i (Err fault) = Err (Refused fault i)
+  covered_by ps i (Ok None) = Ok None
+  covered_by ps i (Ok (Some step)) = found i (position (covers step.accepting step.number step.target step.zone) ps)
 
-    -- the same of any edge: one from another location leans on nothing
+  module _ (a : Automaton) where
+    -- the place that edge i of node p leans on: the first that covers the step along it
     abbrev pub owed : Place Row → List (Place Row) → ℕ → Edge → Result (Option ℕ) Stop
-    owed p ps i e = cond (e.source == p.location) (leaned p ps i e (followed calls a (calls.of_row p.zone) e)) (Ok None)
+    owed p ps i e = covered_by ps i (stepped calls a p e)
 
     -- the leans so far and those of the edges from number i on, or the first stop
     abbrev pub walked : Place Row → List (Place Row) → ℕ → List Edge → List Bool → Result (List Bool) Stop

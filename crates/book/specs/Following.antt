@@ -7,6 +7,7 @@ use Rattle.sheet.specs.declared.atom.Relation.TheVariants.{Less, AtMost, Equal, 
 use Rattle.zone.specs.Calls.{Calls}
 use Rattle.zone.specs.declared.constraint.Constraint.{Constraint}
 use Rattle.zone.specs.declared.fault.ZoneFault.{ZoneFault}
+pub use Rattle.zone.specs.Judging.{and_then}
 
 -- x − 0 ≤ c, or < where strict
 abbrev pub above : ℕ → ℕ → Constraint
@@ -32,10 +33,6 @@ constraints_by Greater x c = strictly_below x c ∷ []
 
 abbrev pub constraints_of : Atom → List Constraint
 constraints_of atom = constraints_by atom.relation atom.clock atom.constant
-
-abbrev pub and_then : {X Y E : Type 0} → Result X E → (X → Result Y E) → Result Y E
-and_then (Ok x) f = f x
-and_then (Err e) f = Err e
 
 module _ {Z Row : Type 0} (calls : Calls Z Row) where
   abbrev pub all_constrained : Z → List Constraint → Result Z ZoneFault

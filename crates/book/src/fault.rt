@@ -5,7 +5,7 @@ ghost use Rattle.book.specs.Faults.{ground_of, layer_of, place_of, edge_of};
 use reader::{Ground, Layer};
 use zone::ZoneFault;
 
-#[derive(Clone, Copy)]
+#[derive(Clone, Copy, PartialEq, Eq, Debug)]
 pub enum BookFault {
     OutOfRange,
     PlaceTaken {

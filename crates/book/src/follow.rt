@@ -8,7 +8,7 @@ use zone::{Constraint, Zone, ZoneFault};
 
 // The zone under one atom; = is ≤, then ≥.
 fn under_atom<Z: Zone>(zone: &Z, atom: Atom) -> Result<Z, ZoneFault>
-    ensures { result ≡ all_constrained Z.Zone.calls zone.now (constraints_of atom) }
+    ensures { result ≡ all_constrained Z.calls zone.now (constraints_of atom) }
 {
     let constant = i32::from(atom.constant);
     let upper = Constraint {
@@ -38,9 +38,9 @@ fn under_atom<Z: Zone>(zone: &Z, atom: Atom) -> Result<Z, ZoneFault>
     }
 }
 
-// The zone under a list of atoms, in their order.
+// The zone under a list of atoms, in their order. A loop: with `try_fold`, the proof needs a lemma where the loop's invariant is enough.
 fn under_atoms<Z: Zone>(zone: Z, atoms: &[Atom]) -> Result<Z, ZoneFault>
-    ensures { result ≡ limited Z.Zone.calls zone atoms.now }
+    ensures { result ≡ limited Z.calls zone atoms.now }
 {
     let mut under = zone;
     for atom in atoms {
@@ -49,9 +49,9 @@ fn under_atoms<Z: Zone>(zone: Z, atoms: &[Atom]) -> Result<Z, ZoneFault>
     Ok(under)
 }
 
-// The zone with some clocks set to zero, in their order.
+// The zone with some clocks set to zero, in their order. A loop for the same reason.
 fn with_resets<Z: Zone>(zone: Z, clocks: &[u8]) -> Result<Z, ZoneFault>
-    ensures { result ≡ all_reset Z.Zone.calls zone clocks.now }
+    ensures { result ≡ all_reset Z.calls zone clocks.now }
 {
     let mut after = zone;
     for clock in clocks {
@@ -62,7 +62,7 @@ fn with_resets<Z: Zone>(zone: Z, clocks: &[u8]) -> Result<Z, ZoneFault>
 
 // Time passes, the source's limit and the guard hold, clocks are set to zero, and the target's limit holds.
 pub(crate) fn follow<Z: Zone>(sheet: &Sheet, zone: &Z, edge: &Edge) -> Result<Z, ZoneFault>
-    ensures { result ≡ followed Z.Zone.calls (automaton_of sheet.now) zone.now (edge_of edge.now) }
+    ensures { result ≡ followed Z.calls (automaton_of sheet.now) zone.now (edge_of edge.now) }
 {
     let waited = under_atoms(zone.elapse(), sheet.limit(edge.source()))?;
     let guarded = under_atoms(waited, edge.guard())?;

@@ -15,27 +15,19 @@ use zone::Zone;
 impl<Z: Zone, Q: Question> Book<Z, Q> {
     // Makes one call, whatever it answers.
     pub fn perform(&self, places: &mut [Place<Z::Row>], call: &Call<Z>)
-        ensures { places.new ≡ done Z.Zone.calls (Q.Question.asks self.now.question) (automaton_of self.now.sheet) call.now places.old }
+        ensures { places.new ≡ done Z.calls (Q.asks self.now.question) (automaton_of self.now.sheet) call.now places.old }
     {
-        match call {
+        let _ = match call {
             Call::Put {
                 place,
                 location,
                 number,
                 zone,
-            } => {
-                let _ = self.put(places, *place, *location, *number, zone);
-            }
-            Call::Strike { place } => {
-                let _ = self.strike(places, *place);
-            }
-            Call::Examine { place } => {
-                let _ = self.examine(places, *place);
-            }
-            Call::Conclude => {
-                let _ = self.conclude(places);
-            }
-        }
+            } => self.put(places, *place, *location, *number, zone),
+            Call::Strike { place } => self.strike(places, *place),
+            Call::Examine { place } => self.examine(places, *place),
+            Call::Conclude => self.conclude(places).map(|_| ()),
+        };
     }
 }
 
@@ -46,8 +38,8 @@ pub fn play<Z: Zone, Q: Question>(
     places: &mut [Place<Z::Row>],
     calls: &[Call<Z>],
 ) -> Result<u64, BookFault>
-    ensures answer { result ≡ concluding Z.Zone.calls (Q.Question.asks question) (automaton_of sheet) (played Z.Zone.calls (Q.Question.asks question) (automaton_of sheet) calls.now (opened Z.Zone.calls (Q.Question.asks question) (automaton_of sheet) places.old)) }
-    ensures places { places.new ≡ played Z.Zone.calls (Q.Question.asks question) (automaton_of sheet) calls.now (opened Z.Zone.calls (Q.Question.asks question) (automaton_of sheet) places.old) }
+    ensures answer { result ≡ concluding Z.calls (Q.asks question) (automaton_of sheet) (played Z.calls (Q.asks question) (automaton_of sheet) calls.now (opened Z.calls (Q.asks question) (automaton_of sheet) places.old)) }
+    ensures places { places.new ≡ played Z.calls (Q.asks question) (automaton_of sheet) calls.now (opened Z.calls (Q.asks question) (automaton_of sheet) places.old) }
     ensures bounds { IfOk result (AtMostVisits (automaton_of sheet)) }
 {
     let book = Book::<Z, Q>::open(sheet, question, places);

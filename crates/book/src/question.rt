@@ -57,6 +57,7 @@ impl Question for Emptiness {
     }
 
     fn passes(&self, accepting: bool, number: u16, next: u16) -> bool {
+        // Two tests, since `next + 1` would not fit at the greatest number.
         if accepting {
             number > next
         } else {

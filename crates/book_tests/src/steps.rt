@@ -25,6 +25,7 @@ pub const EXAMPLE: &[u8; 22] =
 pub(crate) fn sheet_of(heap: Global, bytes: &[u8]) -> Result<Sheet, SheetFault> {
     let mut draft = Draft::new(heap);
     let mut reader = Reader::new(bytes);
+    // A file has fewer records than bytes.
     for _ in 0..bytes.len() {
         match reader.next()? {
             None | Some(Record::SheetEnd) => break,
@@ -52,11 +53,7 @@ pub(crate) fn used_places<Z: Zone>(
     heap: Global,
     count: usize,
 ) -> Result<Vec<Place<Z::Row>>, AllocError> {
-    let mut places = Vec::new(heap);
-    for _ in 0..count {
-        places.push(used::<Z>())?;
-    }
-    Ok(places)
+    vec![in heap; used::<Z>(); count]
 }
 
 // The places as they are now.
@@ -64,11 +61,7 @@ pub(crate) fn copy_of<R: Copy>(
     heap: Global,
     places: &[Place<R>],
 ) -> Result<Vec<Place<R>>, AllocError> {
-    let mut copy = Vec::new(heap);
-    for place in places {
-        copy.push(*place)?;
-    }
-    Ok(copy)
+    places.iter().copied().collect(heap)
 }
 
 // Leans on one place alone.
@@ -95,7 +88,7 @@ pub(crate) fn at_most<Z: Zone>(i: u8, j: u8, constant: i32) -> Result<Z, ZoneFau
 pub(crate) fn number(answer: Result<(), BookFault>) -> u8 {
     match answer {
         Ok(()) => 0,
-        Err(fault) => fault.ground().number(),
+        Err(fault) => u8::from(fault.ground()),
     }
 }
 
@@ -103,7 +96,7 @@ pub(crate) fn number(answer: Result<(), BookFault>) -> u8 {
 pub(crate) fn refusal(answer: Result<(), BookFault>) -> (u8, Option<u8>, Option<usize>) {
     match answer {
         Ok(()) => (0, None, None),
-        Err(fault) => (fault.ground().number(), fault.place(), fault.edge()),
+        Err(fault) => (u8::from(fault.ground()), fault.place(), fault.edge()),
     }
 }
 
@@ -111,7 +104,7 @@ pub(crate) fn refusal(answer: Result<(), BookFault>) -> (u8, Option<u8>, Option<
 pub(crate) fn open_end(answer: Result<u64, BookFault>) -> (u8, Option<u8>) {
     match answer {
         Ok(_) => (0, None),
-        Err(fault) => (fault.ground().number(), fault.place()),
+        Err(fault) => (u8::from(fault.ground()), fault.place()),
     }
 }
 

@@ -1,13 +1,9 @@
-use Rattle.std.proofs.Common.{◌∙◌, arith}
-use Rattle.book.proofs.Fronts.{front_of, fill_more}
+use Rattle.std.proofs.lemmas.List.Edits.{map_over_more}
+use Rattle.book.proofs.Fronts.{front_mapped}
 use Rattle.book.proofs.row.clear_all.Goals as goal
 
-pub loop-i-preserved : goal.loop-i-preserved
-loop-i-preserved g c =
-    fill_more c.args.vacant c.args.places.now c.loop-i.places c.loop-i.i
-    (omega (arith, c.loop-i-test.true, c.min-front.ensures))
-    (omega (arith, c.loop-i-test.true, c.min-front.ensures, c.loop-i.auto.places))
-    c.loop-i.invariant
+pub loop-place-preserved : goal.loop-place-preserved
+loop-place-preserved g c = map_over_more (λ p. c.args.vacant) _ c.loop-place.place-items c.loop-place.place-index c.place-item.result c.loop-place-test.true c.loop-place.invariant c.place-item.is
 
 pub returns : goal.returns
-returns g c = c.loop-i.invariant ∙ front_of (λ p. c.args.vacant) c.args.places.now c.loop-i.i (omega (arith, c.min-front.ensures, c.loop-i-test.false, c.loop-i.auto.i-end))
+returns g c = front_mapped (λ p. c.args.vacant) c.args.places.now c.min-front.result c.loop-place.place-index _ c.min-front.ensures c.loop-place-test.false c.loop-place.invariant

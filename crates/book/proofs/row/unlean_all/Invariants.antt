@@ -2,5 +2,5 @@ use Rattle.std.proofs.Common.{◌≡◌, ◌++◌, map, take, drop}
 use Rattle.book.specs.Marks.{unleaned}
 use Rattle.book.proofs.row.unlean_all.Given as goal
 
-abbrev pub invariant-loop-k : goal.invariant-loop-k
-invariant-loop-k g l = l.places ≡ map (unleaned l.i) (take l.k l.initial.places) ++ drop l.k l.initial.places
+abbrev pub invariant-loop-place : goal.invariant-loop-place
+invariant-loop-place g l = l.place-items ≡ map (unleaned l.i) (take l.place-index l.initial.place-items) ++ drop l.place-index l.initial.place-items

@@ -5,16 +5,8 @@ use Rattle.book.proofs.book.Book.judge_strike.Goals as goal
 
 pub returns-then-not-old : goal.returns-then-not-old
 returns-then-not-old g c =
-    let calls = g.Z.Zone.calls in
-    let asks = g.Q.Question.asks c.args.self.now.question in
-    let a = automaton_of c.args.self.now.sheet in
-    let here = c.in-Some.ensures in
-    sym (strike_vacant calls asks a c.args.places.now c.args.place c.in-Some.old here.0 here.1 c.if-not-old.true)
+    sym (strike_vacant g.Z.Zone.calls (g.Q.Question.asks c.args.self.now.question) (automaton_of c.args.self.now.sheet) c.args.places.now c.args.place c.in_ok-old.old c.in_ok-old.ensures c.if-not-old.true)
 
 pub returns : goal.returns
 returns g c =
-    let calls = g.Z.Zone.calls in
-    let asks = g.Q.Question.asks c.args.self.now.question in
-    let a = automaton_of c.args.self.now.sheet in
-    let here = c.in-Some.ensures in
-    sym (strike_grants calls asks a c.args.places.now c.args.place c.in-Some.old here.0 here.1 c.if-not-old.false)
+    sym (strike_grants g.Z.Zone.calls (g.Q.Question.asks c.args.self.now.question) (automaton_of c.args.self.now.sheet) c.args.places.now c.args.place c.in_ok-old.old c.in_ok-old.ensures c.if-not-old.false)
