@@ -1,5 +1,5 @@
+pub mod Folding
 pub mod Offsets
-pub mod OverRecords
 pub mod Sheets
 pub mod Finding
 pub mod Sound

@@ -1,9 +1,8 @@
 -- The places that a certificate leaves are those of a list of calls on a new book, so the number that is concluded bounds the visits.
-use Rattle.std.proofs.Common.{◌≡◌, ℕ, Bool, true, false, cond, List, [], ◌∷◌, ◌++◌, IfOk, Some, None, Ok, Err, Option, Result, sym, refl, ap, ◌∙◌, subst, arith}
+use Rattle.std.proofs.Common.{◌≡◌, ℕ, Bool, true, false, cond, List, [], ◌∷◌, ◌++◌, IfOk, Some, None, Ok, Err, Option, Result, sym, refl, ap, ◌∙◌, subst}
 use Rattle.std.specs.List.{range_with_len}
 use Rattle.reader.specs.Readings.{Sited}
-use Rattle.reader.specs.declared.listing.Ending.{Ending}
-use Rattle.reader.specs.declared.listing.Ending.TheVariants.{End, Refused}
+use Rattle.reader.specs.Endings.{Ending}
 use Rattle.sheet.specs.Automata.{Automaton}
 use Rattle.sheet.specs.Runs.{AtMostVisits}
 use Rattle.zone.specs.Calls as zones
@@ -17,7 +16,7 @@ use Rattle.book.specs.declared.fault.BookFault.{BookFault}
 use Rattle.book.specs.declared.place.Place.{Place}
 use Rattle.book.proofs.Reaching.{then_ok}
 use Rattle.book.proofs.Simulation.{history_bounds}
-use Rattle.judgement.specs.Certifying.{node_offset, end_of, in_file, stands, concluded, examined_at, all_examined, certifying_from}
+use Rattle.judgement.specs.Certifying.{node_offset, in_file, stands, concluded, examined_at, all_examined, certifying_from}
 use Rattle.judgement.specs.Nodes.{Progress, in_book, progress, put_latest, with_bound, pending, advanced, advancing, all_advanced}
 use Rattle.judgement.specs.Parts.{Part, book, node, bound, end, other, part_of}
 use Rattle.judgement.specs.declared.fault.CheckFault.{CheckFault}
@@ -25,16 +24,13 @@ use Rattle.judgement.specs.declared.nodes.Pending.{Pending}
 
 -- what an answer that is granted stands on
 
-not_ok : {X E : Type 0} (e : E) (x : X) → Err e ≡ Ok x → ⊥
-not_ok e x p = let z : ◌≡◌ {A = ℕ} 0 1 = cc in omega arith
-
 in_book_granted : {X : Type 0} (at : ℕ) (r : Result X BookFault) (x : X) → in_book at r ≡ Ok x → r ≡ Ok x
 in_book_granted at (Ok y) x p = cc
 in_book_granted at (Err f) x p = cc
 
-pub ended_whole : (ending : Ending) (done : Unit {0}) → in_file (end_of ending) ≡ Ok done → ending ≡ End
-ended_whole End done p = refl
-ended_whole (Refused f) done p = cc
+pub ended_whole : (ending : Ending) (done : Unit {0}) → in_file ending ≡ Ok done → ending ≡ Ok tt
+ended_whole (Ok _) done p = refl
+ended_whole (Err f) done p = cc
 
 concluded_granted : (xs : List Sited) (r : Result ℕ BookFault) (n : ℕ) → concluded xs r ≡ Ok n → r ≡ Ok n
 concluded_granted xs (Ok m) n p = cc
@@ -42,7 +38,7 @@ concluded_granted xs (Err f) n p = cc
 
 progress_places : {Z Row : Type 0} (r : Result (Option (Pending Z)) CheckFault) (ps : List (Place Row)) (t : Progress Z Row) → progress r ps ≡ Ok t → ps ≡ t.0
 progress_places (Ok latest) ps t p = let same : (ps, latest) ≡ t = cc in ap (λ s. s.0) same
-progress_places (Err f) ps t p = absurd (not_ok _ _ p)
+progress_places (Err f) ps t p = cc
 
 module _ {Z Row : Type 0} (calls : zones.Calls Z Row) (asks : Asks) (a : Automaton) where
   -- some list of calls leads from the places ps to the places qs
@@ -72,14 +68,14 @@ module _ {Z Row : Type 0} (calls : zones.Calls Z Row) (asks : Asks) (a : Automat
       let put = then_ok (put_latest calls asks a s) _ t p in
       let same : (put.0, Some (pending at place location number (calls.whole a.clocks))) ≡ t = cc in
       subst (Reached s.0) (ap (λ u. u.0) same) (put_reached s.0 s.1 put.0 put.1)
-  node_reached s t at place location number false e p = absurd (not_ok _ _ p)
+  node_reached s t at place location number false e p = absurd cc
 
   advanced_reached : (s t : Progress Z Row) (at : ℕ) (p : Part) → advanced calls asks a s at p ≡ Ok t → Reached s.0 t.0
   advanced_reached s t at (node place location number) e = node_reached s t at place location number _ _ e
   advanced_reached (ps, latest) t at (bound i j strict constant) e = reached_none ps t.0 (progress_places (with_bound calls latest at i j strict constant) ps t e)
   advanced_reached s t at end e = let same : s ≡ t = cc in reached_none s.0 t.0 (ap (λ u. u.0) same)
-  advanced_reached s t at (book kind question) e = absurd (not_ok _ _ e)
-  advanced_reached s t at other e = absurd (not_ok _ _ e)
+  advanced_reached s t at (book kind question) e = absurd cc
+  advanced_reached s t at other e = absurd cc
 
   all_advanced_reached : (xs : List Sited) (s t : Progress Z Row) → all_advanced calls asks a s xs ≡ Ok t → Reached s.0 t.0
   all_advanced_reached [] s t p = let same : s ≡ t = cc in reached_none s.0 t.0 (ap (λ u. u.0) same)
@@ -100,11 +96,11 @@ module _ {Z Row : Type 0} (calls : zones.Calls Z Row) (asks : Asks) (a : Automat
 
   -- a number is given only for a file that was read to its end, by a list of calls on the book
   granted : (ps : List (Place Row)) (xs : List Sited) (ending : Ending) (n : ℕ) → certifying_from calls asks a ps xs ending ≡ Ok n
-      → (ending ≡ End) × ((h : List (Call Z)) × (concluding calls asks a (played calls asks a h ps) ≡ Ok n))
+      → (ending ≡ Ok tt) × ((h : List (Call Z)) × (concluding calls asks a (played calls asks a h ps) ≡ Ok n))
   unfolding Reached
   granted ps xs ending n p =
       let put = then_ok (all_advanced calls asks a (ps, None) xs) _ n p in
-      let end = then_ok (in_file (end_of ending)) _ n put.2 in
+      let end = then_ok (in_file ending) _ n put.2 in
       let last = then_ok (put_latest calls asks a put.0) _ n end.2 in
       let marked = then_ok (all_examined calls asks a xs last.0 (range_with_len 0 64)) _ n last.2 in
       let way = reached_then ps put.0.0 marked.0 (all_advanced_reached xs (ps, None) put.0 put.1)
@@ -113,7 +109,7 @@ module _ {Z Row : Type 0} (calls : zones.Calls Z Row) (asks : Asks) (a : Automat
 
   -- the number that a new book concludes bounds the visits of every run
   pub certified_bounds : Laws calls → Keeps asks → (first : List (Place Row)) (xs : List Sited) (ending : Ending) (r : Result ℕ CheckFault)
-      → r ≡ certifying_from calls asks a (opened calls asks a first) xs ending → IfOk r (λ n. (ending ≡ End) × AtMostVisits a n)
+      → r ≡ certifying_from calls asks a (opened calls asks a first) xs ending → IfOk r (λ n. (ending ≡ Ok tt) × AtMostVisits a n)
   certified_bounds laws keeps first xs ending (Ok n) p =
       let g = granted (opened calls asks a first) xs ending n (sym p) in
       (g.0, history_bounds calls asks a laws keeps g.1.0 first n g.1.1)

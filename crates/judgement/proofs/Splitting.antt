@@ -1,42 +1,25 @@
 -- The records of a file, split at the sheet end.
-use Rattle.std.proofs.Common.{◌≡◌, ℕ, suc, Bool, true, false, cond, eqb, ◌⊎◌, List, [], ◌∷◌, ◌++◌, map, length, take, drop, IfOk, Some, None, Ok, Err, Option, Result, sym, refl, ap, ◌∙◌, subst, inl, inr, ⊎_elim, append_assoc, append-nil, arith}
+use Rattle.std.proofs.Common.{◌≡◌, ℕ, suc, Bool, true, false, cond, eqb, List, [], ◌∷◌, ◌++◌, map, take, drop, IfOk, Some, None, Ok, Option, Result, sym, refl, ap, ◌∙◌, subst, append_assoc, append-nil}
 use Rattle.std.proofs.lemmas.List.{take-append-drop, take-map, drop-map, map-append}
 use Rattle.std.proofs.lemmas.Result.{IfOk-weaker}
 use Rattle.reader.specs.Entries.{Entry, entry_of}
 use Rattle.reader.specs.Files.{MadeOf}
 use Rattle.reader.specs.Kinds.{byte_of}
 use Rattle.reader.specs.Listings.{entries, Lists}
-use Rattle.reader.specs.Readings.{Sited, sited, sited_of}
+use Rattle.reader.specs.Readings.{Sited, sited_of}
 use Rattle.reader.specs.declared.kind.Kind.{Kind}
 use Rattle.reader.specs.declared.kind.Kind.TheVariants as kind
-use Rattle.reader.specs.declared.listing.Ending.{Ending}
-use Rattle.reader.specs.declared.listing.Ending.TheVariants.{End}
+use Rattle.reader.specs.Endings.{Ending}
 use Rattle.reader.specs.declared.listing.Placed.{Placed}
-use Rattle.sheet.specs.Automata.{Automaton}
 use Rattle.sheet.specs.Described.{described}
 use Rattle.sheet.specs.Fields.{is}
 use Rattle.sheet.specs.Judged.{refusal}
-use Rattle.sheet.specs.Ready.{readiness}
 use Rattle.sheet.specs.Runs.{AtMostVisits}
 use Rattle.sheet.specs.declared.fault.SheetFault.{SheetFault}
-use Rattle.book.specs.Following.{and_then}
 use Rattle.judgement.specs.Described.{BookSecond, described_nodes, Bounds, BoundsIn}
-use Rattle.judgement.specs.Drafting.{sheet_length, taken_unless, taking, drafting, in_sheet, sealing, Wanting}
-use Rattle.judgement.specs.Judged.{from_sheet, judged, judging, Tells}
+use Rattle.judgement.specs.Drafting.{sheet_length, taken_unless, taking, drafting}
 use Rattle.judgement.specs.declared.fault.CheckFault.{CheckFault}
 use Rattle.book.proofs.Reaching.{then_ok}
-
-pub none_left : {X : Type 0} (xs : List X) → length xs ≡ 0 → xs ≡ []
-none_left [] h = refl
-none_left (x ∷ xs) h = absurd (omega arith)
-
--- a sheet that is sealed is the one that its records describe
-sealed_by : (es : List Entry) (at : ℕ) (r : Result (Unit {0}) SheetFault) (a : Automaton) → and_then (in_sheet at r) (λ done. Ok (described es)) ≡ Ok a → described es ≡ a
-sealed_by es at (Ok done) a p = cc
-sealed_by es at (Err f) a p = cc
-
-pub sealing_describes : (es : List Entry) (at : ℕ) (a : Automaton) → sealing es at ≡ Ok a → described es ≡ a
-sealing_describes es at a p = sealed_by es at (readiness es) a p
 
 -- drafting takes every record
 taken_all : (es ds : List Entry) (x : Sited) (o : Option SheetFault) → taken_unless es x o ≡ Ok ds → ds ≡ es ++ x.entry ∷ []
@@ -74,7 +57,7 @@ ends_here (w ∷ xs) x ys p = go (is kind.SheetEnd w.entry) refl p (ends_here xs
     go false e q later = later q
 
 -- what is known of the records from the sheet end on
-module _ (xs : List Sited) (ending : Ending) (n : ℕ) (es : List Entry) (drafts : drafting [] (take (sheet_length xs) xs) ≡ Ok es) (ends : ending ≡ End) (visits : AtMostVisits (described es) n) where
+module _ (xs : List Sited) (ending : Ending) (n : ℕ) (es : List Entry) (drafts : drafting [] (take (sheet_length xs) xs) ≡ Ok es) (ends : ending ≡ Ok tt) (visits : AtMostVisits (described es) n) where
   bounds_at : (rest : List Sited) → drop (sheet_length xs) xs ≡ rest → BookSecond rest → BoundsIn xs ending n
   bounds_at [] is second = absurd second
   bounds_at (x ∷ []) is second = absurd second
@@ -95,29 +78,13 @@ module _ (xs : List Sited) (ending : Ending) (n : ℕ) (es : List Entry) (drafts
   pub bounds_in : BookSecond (drop (sheet_length xs) xs) → BoundsIn xs ending n
   bounds_in second = bounds_at (drop (sheet_length xs) xs) refl second
 
-pub tells_same : (s r : Result ℕ CheckFault) → s ≡ r → Tells s r
-tells_same s (Ok n) e = e
-tells_same s (Err f) e = inr e
-
--- the records before the sheet end are not taken
-pub tells_refused : (ending : Ending) (len : ℕ) (xs front : List Sited) (r : Result ℕ CheckFault) (f g : CheckFault)
-    → front ≡ take (sheet_length xs) xs → Wanting g ⊎ (drafting [] front ≡ Err g) → r ≡ Err f → f ≡ g → Tells (judged ending len xs) r
-tells_refused ending len xs front r f g split met e same =
-    subst (Tells (judged ending len xs)) (sym (e ∙ ap Err same))
-    (⊎_elim inl (λ stop. inr (ap (λ ys. and_then (drafting [] ys) (λ es. from_sheet ending len es (drop (sheet_length xs) xs))) (sym split) ∙ ap (λ d. and_then d (λ es. from_sheet ending len es (drop (sheet_length xs) xs))) stop)) met)
-
 -- they are
 module _ (ending : Ending) (len : ℕ) (xs front back : List Sited) (r : Result ℕ CheckFault) (es : List Entry)
     (split_front : front ≡ take (sheet_length xs) xs) (split_back : back ≡ drop (sheet_length xs) xs) (drafts : drafting [] front ≡ Ok es) where
   drafts_front : drafting [] (take (sheet_length xs) xs) ≡ Ok es
   drafts_front = ap (drafting []) (sym split_front) ∙ drafts
 
-  pub tells_judged : r ≡ from_sheet ending len es back → Tells (judged ending len xs) r
-  tells_judged is =
-      tells_same (judged ending len xs) r
-      (ap (λ d. and_then d (λ ds. from_sheet ending len ds (drop (sheet_length xs) xs))) drafts_front ∙ ap (from_sheet ending len es) (sym split_back) ∙ sym is)
-
-  pub bounds_judged : IfOk r (λ n. BookSecond back × (ending ≡ End) × AtMostVisits (described es) n) → IfOk r (BoundsIn xs ending)
+  pub bounds_judged : IfOk r (λ n. BookSecond back × (ending ≡ Ok tt) × AtMostVisits (described es) n) → IfOk r (BoundsIn xs ending)
   bounds_judged m = IfOk-weaker r _ (BoundsIn xs ending) (λ n h. bounds_in xs ending n es drafts_front h.1 h.2 (subst BookSecond split_back h.0)) m
 
 -- a slice of records split at the sheet end
@@ -127,12 +94,6 @@ module _ (ps : List Placed) (k : ℕ) (is : k ≡ sheet_length (map sited_of ps)
 
   pub back_split : (qs : List Placed) → qs ≡ drop k ps → map sited_of qs ≡ drop (sheet_length (map sited_of ps)) (map sited_of ps)
   back_split qs e = ap (map sited_of) e ∙ sym (drop-map sited_of k ps) ∙ ap (λ (m : ℕ). drop m (map sited_of ps)) is
-
--- what a listing comes to is what its bytes come to
-pub judged_listing : (bytes : List ℕ) (ps : List Placed) (ending : Ending) → Lists bytes ps ending → judged ending (length bytes) (map sited_of ps) ≡ judging bytes
-judged_listing bytes ps ending l =
-    ap (judged ending (length bytes)) l.places
-    ∙ sym (ap (λ (r : List Entry × Ending). judged r.1 (length bytes) (sited 0 r.0)) l.reads)
 
 entries_sited : (ps : List Placed) → map (λ x. x.entry) (map sited_of ps) ≡ entries ps
 entries_sited [] = refl
@@ -150,7 +111,7 @@ bounds_listing bytes ps ending n l b =
         sheet_end = b.sheet_end.entry;
         book_record = b.book_record.entry;
         nodes = map entry_in b.nodes;
-        made_of = subst (λ (es : List Entry). MadeOf bytes es End) records (subst (MadeOf bytes (entries ps)) b.ends l.made_of);
+        made_of = subst (λ (es : List Entry). MadeOf bytes es (Ok tt)) records (subst (MadeOf bytes (entries ps)) b.ends l.made_of);
         ends_sheet = b.ends_sheet;
         automaton = refl;
         opens = b.opens;

@@ -10,7 +10,7 @@ use Rattle.reader.specs.Order.{has, allowed}
 use Rattle.reader.specs.Readings.{Sited, sited, reading}
 use Rattle.reader.specs.declared.fault.FileFault.{FileFault}
 use Rattle.reader.specs.declared.kind.Kind.TheVariants as kind
-use Rattle.reader.specs.declared.listing.Ending.{Ending}
+use Rattle.reader.specs.Endings.{Ending}
 use Rattle.sheet.specs.Automata.{Automaton, location}
 use Rattle.sheet.specs.Described.{count, described}
 use Rattle.sheet.specs.Judged.{drafted, fits, room, refusal_by}
@@ -26,7 +26,7 @@ use Rattle.book.specs.Following.{and_then}
 use Rattle.book.specs.Questions.{Asks, unreachability, emptiness}
 use Rattle.book.specs.declared.fault.BookFault.{BookFault}
 use Rattle.book.specs.declared.place.Place.{Place}
-use Rattle.judgement.specs.Certifying.{node_offset, end_of, in_file, stands, concluded, examined_at, all_examined, certifying_from}
+use Rattle.judgement.specs.Certifying.{node_offset, in_file, stands, concluded, examined_at, all_examined, certifying_from}
 use Rattle.judgement.specs.Described.{Bounds}
 use Rattle.judgement.specs.Drafting.{sheet_length, taken_unless, taking, drafting, in_sheet, sealing}
 use Rattle.judgement.specs.Judged.{certified, after_sheet, from_sheet, judging, Judgeable}
@@ -135,7 +135,7 @@ module _ {Z Row : Type 0} (calls : zones.Calls Z Row) where
     told_certifying : (ps : List (Place Row)) (xs : List Sited) (ending : Ending) → Judgeable (certifying_from calls asks a ps xs ending)
     told_certifying ps xs ending =
         told_then (all_advanced calls asks a (ps, None) xs) _ (told_nodes xs (ps, None)) λ s.
-        told_then (in_file (end_of ending)) _ (told_file (end_of ending)) λ done.
+        told_then (in_file ending) _ (told_file ending) λ done.
         told_then (put_latest calls asks a s) _ (told_put s) λ qs.
         told_then (all_examined calls asks a xs qs (range_with_len 0 64)) _ (told_examined xs (range_with_len 0 64) qs) λ rs.
         told_concluded xs (concluding calls asks a rs)

@@ -2,8 +2,7 @@
 use Rattle.std.specs.Prelude.{ℕ, ◌-◌, Bool, false, cond, List, [], ◌∷◌, map, length, replicate, Some, None, Ok, Err, Option, Result, ◌==◌, slice_index, slice_index_or}
 use Rattle.std.specs.List.{range_with_len}
 use Rattle.reader.specs.declared.fault.FileFault.{FileFault}
-use Rattle.reader.specs.declared.listing.Ending.{Ending}
-use Rattle.reader.specs.declared.listing.Ending.TheVariants.{End, Refused}
+use Rattle.reader.specs.Endings.{Ending}
 use Rattle.sheet.specs.Automata.{Automaton}
 use Rattle.zone.specs.Calls as zones
 use Rattle.book.specs.Calls.{vacant, opened, examining, concluding}
@@ -45,11 +44,6 @@ abbrev pub concluded : List Sited → Result ℕ BookFault → Result ℕ CheckF
 concluded xs (Ok n) = Ok n
 concluded xs (Err f) = Err (fault.Book f (offset_by xs (place_of f)))
 
--- whether the reading of the file went to its end
-abbrev pub end_of : Ending → Result (Unit {0}) FileFault
-end_of End = Ok tt
-end_of (Refused f) = Err f
-
 -- a reader's answer
 abbrev pub in_file : {X : Type 0} → Result X FileFault → Result X CheckFault
 in_file (Ok x) = Ok x
@@ -77,7 +71,7 @@ module _ {Z Row : Type 0} (calls : zones.Calls Z Row) (asks : Asks) (a : Automat
   abbrev pub certifying_from : List (Place Row) → List Sited → Ending → Result ℕ CheckFault
   certifying_from ps xs ending =
       and_then (all_advanced calls asks a (ps, None) xs) λ s.
-      and_then (in_file (end_of ending)) λ done.
+      and_then (in_file ending) λ done.
       and_then (put_latest calls asks a s) λ qs.
       and_then (all_examined xs qs (range_with_len 0 64)) λ rs.
       concluded xs (concluding calls asks a rs)

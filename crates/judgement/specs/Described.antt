@@ -1,11 +1,10 @@
 -- The automaton and the certificate that the bytes of a file describe.
-use Rattle.std.specs.Prelude.{◌≡◌, ℕ, List, [], ◌∷◌, ◌++◌, map, ◌==◌}
+use Rattle.std.specs.Prelude.{◌≡◌, ℕ, List, [], ◌∷◌, ◌++◌, map, Ok, ◌==◌}
 use Rattle.reader.specs.Entries.{Entry}
 use Rattle.reader.specs.Files.{MadeOf}
 use Rattle.reader.specs.Readings.{Sited}
 use Rattle.reader.specs.declared.kind.Kind.TheVariants as kind
-use Rattle.reader.specs.declared.listing.Ending.{Ending}
-use Rattle.reader.specs.declared.listing.Ending.TheVariants.{End}
+use Rattle.reader.specs.Endings.{Ending}
 use Rattle.sheet.specs.Automata.{Automaton}
 use Rattle.sheet.specs.Described.{described}
 use Rattle.sheet.specs.Runs.{AtMostVisits}
@@ -73,7 +72,7 @@ pub record Describes (bytes : List ℕ) (a : Automaton) (c : Certificate) : Type
   pub sheet_end : Entry
   pub book_record : Entry
   pub nodes : List Entry
-  pub made_of : MadeOf bytes (sheet ++ sheet_end ∷ (book_record ∷ nodes)) End
+  pub made_of : MadeOf bytes (sheet ++ sheet_end ∷ (book_record ∷ nodes)) (Ok tt)
   pub ends_sheet : sheet_end.kind ≡ kind.SheetEnd
   pub automaton : a ≡ described sheet
   pub opens : part_of book_record ≡ book c.kind c.question
@@ -97,5 +96,5 @@ pub record BoundsIn (xs : List Sited) (ending : Ending) (n : ℕ) : Type 0 where
   pub kind : ℕ
   pub question : ℕ
   pub opens : part_of book_record.entry ≡ book kind question
-  pub ends : ending ≡ End
+  pub ends : ending ≡ Ok tt
   pub visits : AtMostVisits (described (map (λ x. x.entry) sheet)) n

@@ -4,13 +4,11 @@ use Rattle.reader.specs.Entries.{Entry}
 use Rattle.reader.specs.declared.kind.Kind.TheVariants as kind
 use Rattle.sheet.specs.Automata.{Automaton}
 use Rattle.sheet.specs.Described.{described}
-use Rattle.sheet.specs.Drafts.{contents}
 use Rattle.sheet.specs.Fields.{is}
 use Rattle.sheet.specs.Judged.{refusal}
 use Rattle.sheet.specs.Ready.{readiness}
 use Rattle.sheet.specs.Sheets.{automaton_of}
-use Rattle.sheet.specs.Taken.{Took}
-use Rattle.sheet.specs.declared.draft.Draft.{Draft}
+use Rattle.sheet.specs.Taken.{Contents, Took}
 use Rattle.sheet.specs.declared.fault.SheetFault.{SheetFault}
 use Rattle.sheet.specs.declared.sheet.Sheet.{Sheet}
 use Rattle.book.specs.Following.{and_then}
@@ -56,6 +54,6 @@ abbrev pub Wanting : CheckFault → Type 0
 Wanting f = refusal_of f ≡ None
 
 -- the draft has taken the records that drafting gives, or the fault is the one that drafting gives
-abbrev pub Drafts : Result (List Entry) CheckFault → Result Draft CheckFault → Type 0
-Drafts r (Ok d) = (es : List Entry) × (r ≡ Ok es) × Took es (contents d)
+abbrev pub Drafts : Result (List Entry) CheckFault → Result Contents CheckFault → Type 0
+Drafts r (Ok d) = (es : List Entry) × (r ≡ Ok es) × Took es d
 Drafts r (Err f) = Wanting f ⊎ (r ≡ Err f)

@@ -40,4 +40,4 @@ refusal_of (File f) = Some (refusal_with (file.ground_of f) layer.File (file.off
 refusal_of (Sheet f offset) = plain_refusal (sheet.ground_of f) (sheet.layer_of f) offset
 refusal_of (Bound f offset place) = Some (refusal_with (zone.ground_of f) layer.Zone offset (bound_place f place) None)
 refusal_of (Book f offset) = Some (refusal_with (book.ground_of f) (book.layer_of f) offset (book.place_of f) (book.edge_of f))
-refusal_of Memory = None
+refusal_of (Memory error) = None

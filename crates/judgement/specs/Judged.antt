@@ -5,8 +5,7 @@ use Rattle.reader.specs.Entries.{Entry}
 use Rattle.reader.specs.Readings.{Sited, sited, reading}
 use Rattle.reader.specs.declared.fault.FileFault.{FileFault}
 use Rattle.reader.specs.declared.fault.FileFault.TheVariants.{Truncated, OutOfPlace}
-use Rattle.reader.specs.declared.listing.Ending.{Ending}
-use Rattle.reader.specs.declared.listing.Ending.TheVariants.{End, Refused}
+use Rattle.reader.specs.Endings.{Ending}
 use Rattle.sheet.specs.Automata.{Automaton}
 use Rattle.zone.specs.BoxCalls.{box_calls}
 use Rattle.zone.specs.DifferenceCalls.{difference_calls}
@@ -25,8 +24,8 @@ use Rattle.judgement.specs.declared.verdict.Verdict.TheVariants as verdict
 
 -- what is refused where a record is due and the reading has ended, in a file of so many bytes
 abbrev pub missing : Ending → ℕ → FileFault
-missing (Refused f) len = f
-missing End len = Truncated len
+missing (Err f) len = f
+missing (Ok done) len = Truncated len
 
 module _ (ending : Ending) where
   -- the certificate over a kind of zone and a question by their numbers: 0 is difference-bound matrices and unreachability, 1 is boxes and emptiness

@@ -1,5 +1,5 @@
 // What the judgement of a file refuses, from whichever layer, with the offset of the record that is to blame.
-ghost use Rattle.std.specs.Prelude.{◌≡◌};
+ghost use Rattle.std.specs.Prelude.{◌≡◌, ok_or};
 ghost use Rattle.judgement.specs.Faults.{located, refusal_of};
 ghost use Rattle.judgement.specs.declared.fault.CheckFault.TheVariants.{File as file_fault, Sheet as sheet_fault, Book as book_fault, Memory as memory_fault};
 
@@ -11,7 +11,7 @@ use std::alloc::AllocError;
 use zone::ZoneFault;
 
 // A fault of a lower layer, at the offset where it arose.
-#[derive(Clone, Copy)]
+#[derive(Clone, Copy, PartialEq, Eq, Debug)]
 pub struct Located<F> {
     pub fault: F,
     pub offset: usize,
@@ -21,13 +21,10 @@ pub struct Located<F> {
 pub(crate) fn at<T, F>(offset: usize, answer: Result<T, F>) -> Result<T, Located<F>>
     ensures { result ≡ located offset answer }
 {
-    match answer {
-        Ok(value) => Ok(value),
-        Err(fault) => Err(Located { fault, offset }),
-    }
+    answer.map_err(|fault| Located { fault, offset })
 }
 
-#[derive(Clone, Copy)]
+#[derive(Clone, Copy, PartialEq, Eq, Debug)]
 pub enum CheckFault {
     File(FileFault),
     Sheet {
@@ -45,38 +42,34 @@ pub enum CheckFault {
         offset: usize,
     },
     // Want of memory, which has no number.
-    Memory,
+    Memory(AllocError),
 }
 
 impl CheckFault {
-    // The refusal that is printed, or `None` for want of memory.
-    pub fn refusal(self) -> Option<Refusal>
-        ensures { result ≡ refusal_of self }
+    // The refusal that is printed; want of memory has none.
+    pub fn refusal(self) -> Result<Refusal, AllocError>
+        ensures { result ≡ ok_or (refusal_of self) (record {}) }
     {
         match self {
-            CheckFault::File(fault) => Some(Refusal {
+            CheckFault::File(fault) => Ok(Refusal {
                 reason: fault.ground(),
                 layer: fault.layer(),
                 offset: fault.offset(),
                 place: None,
                 edge: None,
             }),
-            CheckFault::Sheet { fault, offset } => {
-                let reason = fault.ground()?;
-                let layer = fault.layer()?;
-                Some(Refusal {
-                    reason,
-                    layer,
-                    offset,
-                    place: None,
-                    edge: None,
-                })
-            }
+            CheckFault::Sheet { fault, offset } => Ok(Refusal {
+                reason: fault.ground()?,
+                layer: fault.layer()?,
+                offset,
+                place: None,
+                edge: None,
+            }),
             CheckFault::Bound {
                 fault,
                 offset,
                 place,
-            } => Some(Refusal {
+            } => Ok(Refusal {
                 reason: fault.ground(),
                 layer: fault.layer(),
                 offset,
@@ -86,14 +79,14 @@ impl CheckFault {
                 },
                 edge: None,
             }),
-            CheckFault::Book { fault, offset } => Some(Refusal {
+            CheckFault::Book { fault, offset } => Ok(Refusal {
                 reason: fault.ground(),
                 layer: fault.layer(),
                 offset,
                 place: fault.place(),
                 edge: fault.edge(),
             }),
-            CheckFault::Memory => None,
+            CheckFault::Memory(error) => Err(error),
         }
     }
 }
@@ -129,9 +122,9 @@ impl From<Located<BookFault>> for CheckFault {
 }
 
 impl From<AllocError> for CheckFault {
-    ghost from_gives = { λ _ r. r ≡ memory_fault };
+    ghost from_gives = { λ e r. r ≡ memory_fault e };
 
-    fn from(_error: AllocError) -> CheckFault {
-        CheckFault::Memory
+    fn from(error: AllocError) -> CheckFault {
+        CheckFault::Memory(error)
     }
 }

@@ -1,6 +1,7 @@
 // The judgement of a whole certificate file: its bytes in, one line out.
 #![tactic(auto)]
 
+mod certifier;
 mod certify;
 mod drafting;
 mod example;
@@ -8,6 +9,7 @@ mod fault;
 mod judge;
 mod line;
 mod nodes;
+mod rest;
 mod verdict;
 
 pub use example::{one_visit, one_visit_line};

@@ -17,10 +17,7 @@ pub fn verdict_on(heap: Global, input: &[u8]) -> Result<Verdict, AllocError>
 {
     match judge(heap, input) {
         Ok(visits) => Ok(Verdict::Stands(visits)),
-        Err(fault) => match fault.refusal() {
-            Some(refusal) => Ok(Verdict::Refused(refusal)),
-            None => Err(AllocError),
-        },
+        Err(fault) => Ok(Verdict::Refused(fault.refusal()?)),
     }
 }
 

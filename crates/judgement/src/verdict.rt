@@ -6,7 +6,7 @@ use reader::{Ground, Layer};
 use std::fmt;
 
 // A refusal, with the node's place and the edge's number where they are named.
-#[derive(Clone, Copy)]
+#[derive(Clone, Copy, PartialEq, Eq, Debug)]
 pub struct Refusal {
     pub reason: Ground,
     pub layer: Layer,
@@ -15,7 +15,7 @@ pub struct Refusal {
     pub edge: Option<usize>,
 }
 
-#[derive(Clone, Copy)]
+#[derive(Clone, Copy, PartialEq, Eq, Debug)]
 pub enum Verdict {
     // No run visits accepting locations more often than this.
     Stands(u64),
@@ -44,12 +44,12 @@ impl fmt::Display for Verdict {
         match self {
             Verdict::Stands(visits) => write!(f, "STANDS {visits}"),
             Verdict::Refused(refusal) => {
-                let ground = refusal.reason.number();
-                let layer = refusal.layer.letter();
+                let reason = refusal.reason;
+                let layer = refusal.layer;
                 let offset = refusal.offset;
                 let place = Named(refusal.place);
                 let edge = Named(refusal.edge);
-                write!(f, "REFUSED {ground} {layer} {offset} {place} {edge}")
+                write!(f, "REFUSED {reason} {layer} {offset} {place} {edge}")
             }
         }
     }
