@@ -7,7 +7,7 @@ mod walk;
 
 use example::{FILE, sheet_of_file};
 use sheet::Sheet;
-use shown::{OfSheet, OfZone};
+use shown::Refusal;
 use std::io;
 use walk::{Walk, at_zero};
 use zone::DifferenceZone;
@@ -49,11 +49,11 @@ fn revise(rt: &HostRuntime, walk: &mut Walk, zone: &DifferenceZone) -> io::Resul
 fn main(rt: HostRuntime) -> io::Result<()> {
     let sheet = match sheet_of_file(rt.alloc(), &FILE) {
         Ok(sheet) => sheet,
-        Err(fault) => return rt.println(OfSheet { fault }),
+        Err(fault) => return rt.println(Refusal::from(fault)),
     };
     let zone = match at_zero() {
         Ok(zone) => zone,
-        Err(fault) => return rt.println(OfZone { fault }),
+        Err(fault) => return rt.println(Refusal::from(fault)),
     };
     print_sheet(&rt, &sheet)?;
     let mut walk = Walk::open(rt.alloc(), sheet)?;

@@ -1,57 +1,59 @@
 // Refusals and lists of places, as text.
-use book::BookFault;
+use book::{BookFault, PLACES};
+use reader::{Ground, Layer};
 use sheet::SheetFault;
 use std::fmt;
 use zone::ZoneFault;
 
-// A refusal of the file or the sheet.
+// A refusal of any layer, with the place and the edge that it names.
 #[derive(Clone, Copy)]
-pub struct OfSheet {
-    pub fault: SheetFault,
+pub struct Refusal {
+    // `None` for want of memory.
+    reason: Option<(Ground, Layer)>,
+    place: Option<u8>,
+    edge: Option<usize>,
 }
 
-impl fmt::Display for OfSheet {
-    fn fmt<W: fmt::Write>(&self, f: &mut fmt::Formatter<W>) -> fmt::Result {
-        match (self.fault.ground(), self.fault.layer()) {
-            (Some(ground), Some(layer)) => {
-                let number = ground.number();
-                let letter = layer.letter();
-                write!(f, "REFUSED {number} {letter}")
-            }
-            _ => write!(f, "no memory"),
+impl From<SheetFault> for Refusal {
+    fn from(fault: SheetFault) -> Refusal {
+        Refusal {
+            reason: fault.ground().ok().zip(fault.layer().ok()),
+            place: None,
+            edge: None,
         }
     }
 }
 
-// A refusal of a zone.
-#[derive(Clone, Copy)]
-pub struct OfZone {
-    pub fault: ZoneFault,
-}
-
-impl fmt::Display for OfZone {
-    fn fmt<W: fmt::Write>(&self, f: &mut fmt::Formatter<W>) -> fmt::Result {
-        let number = self.fault.ground().number();
-        let letter = self.fault.layer().letter();
-        write!(f, "REFUSED {number} {letter}")
+impl From<ZoneFault> for Refusal {
+    fn from(fault: ZoneFault) -> Refusal {
+        Refusal {
+            reason: Some((fault.ground(), fault.layer())),
+            place: None,
+            edge: None,
+        }
     }
 }
 
-// A refusal of a book, with the place and the edge that it names.
-#[derive(Clone, Copy)]
-pub struct OfBook {
-    pub fault: BookFault,
+impl From<BookFault> for Refusal {
+    fn from(fault: BookFault) -> Refusal {
+        Refusal {
+            reason: Some((fault.ground(), fault.layer())),
+            place: fault.place(),
+            edge: fault.edge(),
+        }
+    }
 }
 
-impl fmt::Display for OfBook {
+impl fmt::Display for Refusal {
     fn fmt<W: fmt::Write>(&self, f: &mut fmt::Formatter<W>) -> fmt::Result {
-        let number = self.fault.ground().number();
-        let letter = self.fault.layer().letter();
-        write!(f, "REFUSED {number} {letter}")?;
-        if let Some(place) = self.fault.place() {
+        let Some((reason, layer)) = self.reason else {
+            return write!(f, "no memory");
+        };
+        write!(f, "REFUSED {reason} {layer}")?;
+        if let Some(place) = self.place {
             write!(f, " place {place}")?;
         }
-        if let Some(edge) = self.fault.edge() {
+        if let Some(edge) = self.edge {
             write!(f, " edge {edge}")?;
         }
         Ok(())
@@ -60,19 +62,15 @@ impl fmt::Display for OfBook {
 
 // The numbers of the places that are set.
 #[derive(Clone, Copy)]
-pub struct Numbers {
-    pub set: [bool; 64],
-}
+pub struct Numbers(pub [bool; PLACES]);
 
 impl fmt::Display for Numbers {
     fn fmt<W: fmt::Write>(&self, f: &mut fmt::Formatter<W>) -> fmt::Result {
-        if self.set == [false; 64] {
+        if !self.0.contains(&true) {
             return write!(f, " none");
         }
-        for (i, is_set) in self.set.iter().enumerate() {
-            if *is_set {
-                write!(f, " {i}")?;
-            }
+        for (i, _) in self.0.iter().enumerate().filter(|(_, is_set)| **is_set) {
+            write!(f, " {i}")?;
         }
         Ok(())
     }

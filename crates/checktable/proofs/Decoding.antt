@@ -1,33 +1,25 @@
--- Text is decoded from its front: the bytes of the pairs so far, and the text that is left.
-use Rattle.std.proofs.Common.{◌≡◌, ℕ, List, [], ◌∷◌, ◌++◌, Some, None, Option, sym, refl, ap, ◌∙◌, append_assoc}
-use Rattle.checktable.specs.Hex.{byte_value, before, hex_bytes}
+-- Digits decoded into as many bytes as there are pairs.
+use Rattle.std.proofs.Common.{◌≡◌, ℕ, ◌/◌, true, false, is_ok, List, ◌++◌, length, take, drop, Some, Ok, Err, Result, MatchResult, arith}
+use Rattle.std.proofs.lemmas.Bool.Decides.{nat_tests}
+use Rattle.std.proofs.lemmas.Grind.{common_steps}
+use Rattle.std.specs.Char.{is_ascii_uppercase}
+use Rattle.std.specs.List.{list_any}
+use Rattle.hex.specs.Hex.{decode_of, decode_sized}
+use Rattle.hex.specs.declared.error.FromHexError.{FromHexError}
+use Rattle.checktable.specs.Cases.{hex_bytes}
 
-abbrev pub onto : List ℕ → Option (List ℕ) → Option (List ℕ)
-onto bs None = None
-onto bs (Some rest) = Some (bs ++ rest)
+decodes : (text : List ℕ) (n : ℕ) → n ≡ length text / 2 → decode_sized text n ≡ decode_of text
+decodes text n e = grind (arith, nat_tests)
 
-onto_none : (rest : Option (List ℕ)) → rest ≡ onto [] rest
-onto_none None = refl
-onto_none (Some rest) = refl
+ok_only : (d : Result (List ℕ) FromHexError) (r : Result (Unit {0}) FromHexError) (out : List ℕ) → MatchResult d (λ bytes. (r ≡ Ok tt) × (out ≡ bytes)) (λ e. r ≡ Err e) → true ≡ is_ok r → d ≡ Ok out
+ok_only d r out told ok = grind arith
 
-onto_more : (bs : List ℕ) (b : ℕ) (rest : Option (List ℕ)) → onto bs (before (Some b) rest) ≡ onto (bs ++ b ∷ []) rest
-onto_more bs b None = refl
-onto_more bs b (Some rest) = ap (λ r. Some r) (sym (append_assoc bs (b ∷ []) rest))
+written : (out items : List ℕ) (len : ℕ) → length out ≡ len → length items ≡ len → take len (out ++ drop (length out) items) ≡ out
+written out items len a b = grind (arith, common_steps)
 
--- no pair yet
-pub decodes_none : (text bs rest : List ℕ) → bs ≡ [] → rest ≡ text → hex_bytes text ≡ onto bs (hex_bytes rest)
-decodes_none text bs rest none is = rw none (rw is (onto_none (hex_bytes text)))
-
--- one pair more
-pub decodes_pair : (text bs bs' rest more after : List ℕ) (high low b : ℕ)
-    → hex_bytes text ≡ onto bs (hex_bytes rest)
-    → rest ≡ high ∷ more
-    → more ≡ low ∷ after
-    → Some b ≡ byte_value high low
-    → bs' ≡ bs ++ b ∷ []
-    → hex_bytes text ≡ onto bs' (hex_bytes after)
-decodes_pair text bs bs' rest more after high low b so first second is pushed =
-    so ∙ ap (λ r. onto bs (hex_bytes r)) (first ∙ ap (λ r. high ∷ r) second)
-    ∙ ap (λ o. onto bs (before o (hex_bytes after))) (sym is)
-    ∙ onto_more bs b (hex_bytes after)
-    ∙ ap (λ r. onto r (hex_bytes after)) (sym pushed)
+pub hex_bytes_written : (text out items : List ℕ) (n len : ℕ) (r : Result (Unit {0}) FromHexError) → false ≡ list_any is_ascii_uppercase text → MatchResult (decode_sized text n) (λ bytes. (r ≡ Ok tt) × (out ≡ bytes)) (λ e. r ≡ Err e) → true ≡ is_ok r → n ≡ length text / 2 → length out ≡ len → length items ≡ len → hex_bytes text ≡ Some (take len (out ++ drop (length out) items))
+hex_bytes_written text out items n len r lower told ok half long room =
+    let d = ok_only (decode_sized text n) r out told ok in
+    let e = decodes text n half in
+    let w = written out items len long room in
+    grind arith

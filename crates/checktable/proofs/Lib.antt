@@ -1,3 +1,3 @@
-pub mod Counting
 pub mod Decoding
-pub mod Repeating
+pub mod Counting
+pub mod Joining

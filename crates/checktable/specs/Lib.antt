@@ -1,3 +1,3 @@
-pub mod Decimals
-pub mod Hex
-pub mod Repeats
+pub mod Cases
+pub mod Gives
+pub mod Lines

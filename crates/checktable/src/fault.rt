@@ -1,20 +1,19 @@
-// Why a line of the table gives no file.
-use std::alloc::{AllocError, AllocFailed};
+// Why a case of the table gives no file.
+ghost use Rattle.std.specs.Prelude.{◌≡◌};
+ghost use Rattle.checktable.specs.declared.fault.CaseFault.TheVariants.{NoMemory};
+
+use std::alloc::AllocError;
 
 #[derive(Clone, Copy)]
 pub enum CaseFault {
     Malformed,
-    NoMemory,
+    NoMemory(AllocError),
 }
 
 impl From<AllocError> for CaseFault {
-    fn from(_: AllocError) -> CaseFault {
-        CaseFault::NoMemory
-    }
-}
+    ghost from_gives = { λ error fault. fault ≡ NoMemory error };
 
-impl<T: Drop> From<AllocFailed<T>> for CaseFault {
-    fn from(_: AllocFailed<T>) -> CaseFault {
-        CaseFault::NoMemory
+    fn from(error: AllocError) -> CaseFault {
+        CaseFault::NoMemory(error)
     }
 }

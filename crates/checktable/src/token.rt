@@ -1,81 +1,84 @@
 // The tokens of a case: pairs of hexadecimal digits, and how often these bytes stand.
-ghost use Rattle.std.specs.Prelude.{◌≡◌, ◌<◌, ◌≤◌, [], ◌++◌, length, IfSome, IfOk, Some, OnOk};
-ghost use Rattle.checktable.specs.Decimals.{decimal_value};
-ghost use Rattle.checktable.specs.Repeats.{repeated};
+ghost use Rattle.std.specs.Prelude.{◌≡◌};
+ghost use Rattle.std.specs.Char.{is_ascii_digit, is_ascii_uppercase};
+ghost use Rattle.std.specs.List.{list_any, list_all, slice_split};
+ghost use Rattle.checktable.specs.Cases.{is_space, hex_bytes, count_of, token_bytes, tokens_bytes, file_bytes};
+ghost use Rattle.checktable.specs.Gives.{Gives};
 
 use crate::fault::CaseFault;
-use crate::hex;
-use std::alloc::{AllocError, Global};
+use reader::MAX_LEN;
+use std::alloc::Global;
 
 // One byte more than the longest file has.
-const MOST: u32 = 65_536;
+const MOST: usize = MAX_LEN + 1;
 
-// The number that decimal digits write.
-fn decimal(text: &[u8]) -> Option<u32>
-    ensures { IfSome result (λ n. decimal_value 0 text.now ≡ Some n) }
+fn has_capitals(text: &str) -> bool
+    ensures { result ≡ list_any is_ascii_uppercase text.now }
 {
-    let mut number: u32 = 0;
-    for byte in text {
-        if !byte.is_ascii_digit() {
-            return None;
-        }
-        number = number
-            .checked_mul(10)?
-            .checked_add(u32::from(*byte - b'0'))?;
+    text.bytes().any(|byte| byte.is_ascii_uppercase())
+}
+
+// The bytes of pairs of digits, with lower case letters.
+fn decoded(heap: Global, text: &str) -> Result<Vec<u8>, CaseFault>
+    ensures { Gives (hex_bytes text.now) result }
+{
+    if has_capitals(text) {
+        return Err(CaseFault::Malformed);
     }
-    Some(number)
+    let mut bytes = vec![in heap; 0u8; text.len() / 2]?;
+    hex::decode_to_slice(text, bytes.as_mut_slice()).map_err(|_| CaseFault::Malformed)?;
+    Ok(bytes)
+}
+
+fn is_decimal(text: &str) -> bool
+    ensures { result ≡ list_all is_ascii_digit text.now }
+{
+    text.bytes().all(|byte| byte.is_ascii_digit())
 }
 
 // How often a token's bytes stand.
-fn count(text: &str) -> Option<u32>
-    ensures { IfSome result (λ n. (decimal_value 0 text.now ≡ Some n) × (0 < n) × (n ≤ 65536)) }
+fn count(text: &str) -> Option<usize>
+    ensures { result ≡ count_of text.now }
 {
-    match decimal(text.as_bytes()) {
-        Some(number) if 0 < number && number <= MOST => Some(number),
-        _ => None,
+    if !is_decimal(text) {
+        return None;
     }
+    let count = text.parse().ok()?;
+    (1..=MOST).contains(&count).then_some(count)
 }
 
-// Adds these bytes so many times.
-fn add(file: &mut Vec<u8>, bytes: &[u8], count: u32) -> Result<(), AllocError>
-    ensures { OnOk result (file.new.items ≡ file.old.items ++ repeated count bytes.now) }
+// The bytes of a token.
+fn token(heap: Global, text: &str) -> Result<Vec<u8>, CaseFault>
+    ensures { Gives (token_bytes text.now) result }
 {
-    for _done in 0..count {
-        file.extend_from_slice(bytes)?;
-    }
-    Ok(())
-}
-
-// Adds the bytes of a token.
-fn add_token(heap: Global, file: &mut Vec<u8>, token: &str) -> Result<(), CaseFault> {
-    let (digits, count) = match token.split_once('*') {
-        Some((digits, text)) => (digits, count(text).ok_or(CaseFault::Malformed)?),
-        None => (token, 1),
+    let (digits, count) = match text.split_once('*') {
+        Some((digits, times)) => (digits, count(times).ok_or(CaseFault::Malformed)?),
+        None => (text, 1),
     };
     if digits.is_empty() {
         return Err(CaseFault::Malformed);
     }
-    let bytes = hex::decoded(heap, digits)?;
-    add(file, bytes.as_slice(), count)?;
-    Ok(())
+    let bytes = decoded(heap, digits)?;
+    Ok(bytes.as_slice().repeat(heap, count)?)
 }
 
-// Adds the bytes of tokens with a space between each two.
-fn add_tokens(heap: Global, file: &mut Vec<u8>, tokens: &str) -> Result<(), CaseFault> {
-    for token in tokens.split(' ') {
-        add_token(heap, file, token)?;
+// The bytes of tokens with a space between each two.
+fn tokens(heap: Global, text: &str) -> Result<Vec<u8>, CaseFault>
+    ensures { Gives (tokens_bytes (slice_split is_space text.now)) result }
+{
+    let mut file = Vec::new(heap);
+    for part in text.split(' ') {
+        file.extend_from_slice(token(heap, part)?.as_slice())?;
     }
-    Ok(())
+    Ok(file)
 }
 
 // The file of a case: nothing, or tokens with a space before each.
 pub(crate) fn file(heap: Global, text: &str) -> Result<Vec<u8>, CaseFault>
-    ensures { length text.now ≡ 0 → IfOk result (λ v. v.items ≡ []) }
+    ensures { Gives (file_bytes text.now) result }
 {
-    let mut file = Vec::new(heap);
-    if !text.is_empty() {
-        let tokens = text.strip_prefix(' ').ok_or(CaseFault::Malformed)?;
-        add_tokens(heap, &mut file, tokens)?;
+    if text.is_empty() {
+        return Ok(Vec::new(heap));
     }
-    Ok(file)
+    tokens(heap, text.strip_prefix(' ').ok_or(CaseFault::Malformed)?)
 }

@@ -1,0 +1,2 @@
+pub mod AtZero
+pub mod Drafting
