@@ -70,7 +70,7 @@ impl<Z: Zone, Q: Question> Book<Z, Q> {
         Ok(())
     }
 
-    // Puts a node in a vacant place, without a mark.
+    // Puts a node in a vacant place, without a mark. The node's parts are parameters, since a type for them would be `Call::Put` again.
     pub fn put(
         &self,
         places: &mut [Place<Z::Row>],

@@ -42,7 +42,7 @@ pub(crate) fn clear_all<R: Copy>(places: &mut [Place<R>], vacant: Place<R>)
     }
 }
 
-// Clears mark and leans of each of the first 64 that leans on place i. A loop, since of what a closure writes nothing would be known.
+// Clears mark and leans of each of the first 64 that leans on place i. Beside `clear_all` and not one with it: a function that takes the rule would need a clause on what the rule gives.
 pub(crate) fn unlean_all<R: Copy>(places: &mut [Place<R>], i: u8)
     requires { i < 64 }
     ensures { places.new ≡ map (unleaned i) (take 64 places.old) ++ drop 64 places.old }

@@ -54,7 +54,7 @@ impl<Z: Zone, Q: Question> Book<Z, Q> {
         }))
     }
 
-    // What a node leans on: for each edge the lowest place that covers the step along it. Both loops are left at the first edge that has no cover or that a zone refuses, by the `break` that yields it; a `for` yields nothing.
+    // What a node leans on: for each edge the lowest place that covers the step along it. Both loops are left at the first edge that has no cover or that a zone refuses, by the `break` that yields it: the form that the project asks for.
     pub(crate) fn walk(
         &self,
         node: &Place<Z::Row>,

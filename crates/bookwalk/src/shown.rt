@@ -2,22 +2,26 @@
 use book::{BookFault, PLACES};
 use reader::{Ground, Layer};
 use sheet::SheetFault;
+use std::alloc::AllocError;
 use std::fmt;
 use zone::ZoneFault;
 
 // A refusal of any layer, with the place and the edge that it names.
 #[derive(Clone, Copy)]
 pub struct Refusal {
-    // `None` for want of memory.
-    reason: Option<(Ground, Layer)>,
+    reason: Result<(Ground, Layer), AllocError>,
     place: Option<u8>,
     edge: Option<usize>,
+}
+
+fn sheet_reason(fault: SheetFault) -> Result<(Ground, Layer), AllocError> {
+    Ok((fault.ground()?, fault.layer()?))
 }
 
 impl From<SheetFault> for Refusal {
     fn from(fault: SheetFault) -> Refusal {
         Refusal {
-            reason: fault.ground().ok().zip(fault.layer().ok()),
+            reason: sheet_reason(fault),
             place: None,
             edge: None,
         }
@@ -27,7 +31,7 @@ impl From<SheetFault> for Refusal {
 impl From<ZoneFault> for Refusal {
     fn from(fault: ZoneFault) -> Refusal {
         Refusal {
-            reason: Some((fault.ground(), fault.layer())),
+            reason: Ok((fault.ground(), fault.layer())),
             place: None,
             edge: None,
         }
@@ -37,7 +41,7 @@ impl From<ZoneFault> for Refusal {
 impl From<BookFault> for Refusal {
     fn from(fault: BookFault) -> Refusal {
         Refusal {
-            reason: Some((fault.ground(), fault.layer())),
+            reason: Ok((fault.ground(), fault.layer())),
             place: fault.place(),
             edge: fault.edge(),
         }
@@ -46,7 +50,7 @@ impl From<BookFault> for Refusal {
 
 impl fmt::Display for Refusal {
     fn fmt<W: fmt::Write>(&self, f: &mut fmt::Formatter<W>) -> fmt::Result {
-        let Some((reason, layer)) = self.reason else {
+        let Ok((reason, layer)) = self.reason else {
             return write!(f, "no memory");
         };
         write!(f, "REFUSED {reason} {layer}")?;

@@ -34,7 +34,7 @@ pub(crate) fn sheet_length(records: &[Placed<'_>]) -> usize
     sheet_end(records).unwrap_or(records.len())
 }
 
-// The draft that takes these records.
+// The draft that takes these records. A loop, since of what a closure writes to the draft nothing would be known.
 pub(crate) fn drafted(heap: Global, records: &[Placed<'_>]) -> Result<Draft, CheckFault>
     ensures { Drafts (drafting [] (map sited_of records.now)) result }
 {

@@ -99,6 +99,7 @@ impl From<FileFault> for CheckFault {
     }
 }
 
+// Each layer's fault has a case of its own, and so an impl of its own.
 impl From<Located<SheetFault>> for CheckFault {
     ghost from_gives = { λ e r. r ≡ sheet_fault e.fault e.offset };
 

@@ -25,7 +25,7 @@ fn certify_as(book: &Placed<'_>, sheet: Sheet, nodes: &Rest<'_>) -> Result<u64, 
     ensures bounds { IfOk result (λ n. BookNamed (part_of (entry_of book.now.«record»)) × (nodes.now.ending ≡ Ok tt) × AtMostVisits (automaton_of sheet) n) }
 {
     match book.record {
-        // The two numbers are read here alone, so that enums for them would only move this table.
+        // The two numbers are read here alone, besides the lister, which prints them: enums for them would only move this table.
         Record::Book(&[0, 0]) => certify_differences(sheet, Unreachability, nodes),
         Record::Book(&[0, 1]) => certify_differences(sheet, Emptiness, nodes),
         Record::Book(&[1, 0]) => certify_boxes(sheet, Unreachability, nodes),

@@ -34,7 +34,7 @@ fn is_strict(byte: u8) -> Result<bool, ZoneFault>
     }
 }
 
-// The latest node under a bound, which stands at this offset; a bound before any node is out of place.
+// The latest node under a bound, which stands at this offset; a bound before any node is out of place. The fields of a bound stand together here alone.
 fn with_bound<Z: Zone>(
     latest: Option<Pending<Z>>,
     offset: usize,
@@ -137,7 +137,7 @@ impl<'a, Z: Zone, Q: Question> Certifier<'a, Z, Q> {
         }
     }
 
-    // Takes the records of the certificate one by one, and gives the last node, which is not put yet.
+    // Takes the records of the certificate one by one, and gives the last node, which is not put yet. A loop, since of what a closure writes to the places nothing would be known.
     pub(crate) fn take_nodes(
         &self,
         places: &mut [Place<Z::Row>],

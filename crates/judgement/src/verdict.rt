@@ -15,6 +15,7 @@ pub struct Refusal {
     pub edge: Option<usize>,
 }
 
+// Not a `Result`, since it has a text of its own.
 #[derive(Clone, Copy, PartialEq, Eq, Debug)]
 pub enum Verdict {
     // No run visits accepting locations more often than this.

@@ -54,7 +54,7 @@ impl Builder {
         }
     }
 
-    // What a record adds, or why it is refused.
+    // What a record adds, or why it is refused. The arms of a limit and of a guard stay two: each has its own count, its own most and its own part.
     pub(crate) fn judge(&self, record: Record<'_>) -> Result<Part, SheetFault>
         ensures { Judges (built self.now) (entry_of «record».entry) result }
     {
@@ -173,7 +173,7 @@ impl Builder {
         Ok(())
     }
 
-    // The atom of these fields, each of which must be in range. A struct of the three would be made for this call alone.
+    // The atom of these fields, each of which must be in range. A struct of the three would be made for this function alone.
     fn atom(&self, clock: u8, relation: u8, constant: u16) -> Result<Atom, SheetFault>
         ensures { MatchResult result (λ atom. (atom_fits (built self.now).automaton.clocks clock relation constant ≡ true) × (atom ≡ atom_of clock relation constant)) (λ fault. (atom_fits (built self.now).automaton.clocks clock relation constant ≡ false) × (fault ≡ SheetFault.OutOfRange)) }
     {

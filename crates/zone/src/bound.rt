@@ -30,6 +30,7 @@ impl Bound {
         }
     }
 
+    // The tighter of the two; not `min`, which `Ord` would bring.
     pub(crate) fn tighter(self, other: Bound) -> Bound
         ensures { result ≡ tighter_of self other }
     {

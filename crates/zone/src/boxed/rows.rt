@@ -31,6 +31,7 @@ impl BoxRow {
         }
     }
 
+    // By number, since with `enumerate` the proof did not close.
     pub(super) fn is_proper(&self) -> bool
         ensures { result ≡ proper self.now }
     {

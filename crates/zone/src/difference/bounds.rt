@@ -114,6 +114,7 @@ fn fits_at(clocks: u8, p: usize, q: usize, bound: Bound) -> bool
 }
 
 #[tactic(auto, unfolding(crate::specs::Tests::every))]
+// By number, since with `enumerate` the proof did not close.
 fn all_fit(clocks: u8, bounds: &[Bound; 49]) -> bool
     ensures { result ≡ every (λ k. fits clocks (k / 7) (k % 7) (slice_index_or bounds.now k Free)) 49 }
 {
