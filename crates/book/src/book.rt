@@ -128,7 +128,7 @@ impl<Z: Zone, Q: Question> Book<Z, Q> {
             return Err(BookFault::NotAdmitted { place });
         }
         let leans = self
-            .walk(&node, front(places))
+            .walk(node, front(places))
             .map_err(|stop| stop.at(place, node.marked))?;
         Ok(node.granted(leans))
     }

@@ -14,13 +14,12 @@ pub(crate) fn front<R: Copy>(places: &[Place<R>]) -> &[Place<R>]
     &places[..PLACES.min(places.len())]
 }
 
-// The place with this number, if there is one among the first 64.
-pub(crate) fn place_at<R: Copy>(places: &[Place<R>], i: u8) -> Result<Place<R>, BookFault>
-    ensures { MatchResult result (IsPlace places.now i) (λ e. (length (take 64 places.now) ≤ i) × (e ≡ OutOfRange)) }
+// The place with this number, if there is one among the first 64. Lent: a copy would cost more than the examine of a node without edges.
+pub(crate) fn place_at<R: Copy>(places: &[Place<R>], i: u8) -> Result<&Place<R>, BookFault>
+    ensures { MatchResult result (λ p. IsPlace places.now i p.now) (λ e. (length (take 64 places.now) ≤ i) × (e ≡ OutOfRange)) }
 {
     front(places)
         .get(usize::from(i))
-        .copied()
         .ok_or(BookFault::OutOfRange)
 }
 

@@ -19,8 +19,7 @@ fn a_row_of_no_zone_leads_nowhere(rt: HostRuntime) -> Result<(), Fail> {
     );
     assert_eq!(rt; open_end(book.conclude(places)), (16, Some(0)));
     let node = places.get_mut(0).ok_or("no place 0")?;
-    let bounds = node.zone.bounds.as_mut().ok_or("no bounds")?;
-    bounds[1] = Bound::AtMost(1);
+    node.zone.bounds[1] = Bound::AtMost(1);
     let zone = DifferenceZone::from_row(&node.zone);
     assert!(rt; zone.is_empty() && zone.clocks() == 1);
     assert_eq!(rt; number(book.examine(places, 0)), 0);

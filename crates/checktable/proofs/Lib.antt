@@ -1,3 +1,4 @@
 pub mod Decoding
 pub mod Counting
 pub mod Joining
+pub mod Repeating

@@ -1,12 +1,12 @@
 -- The records of a file, split at the sheet end.
-use Rattle.std.proofs.Common.{◌≡◌, ℕ, suc, Bool, true, false, cond, eqb, List, [], ◌∷◌, ◌++◌, map, take, drop, IfOk, Some, None, Ok, Option, Result, sym, refl, ap, ◌∙◌, subst, append_assoc, append-nil}
+use Rattle.std.proofs.Common.{◌≡◌, ℕ, suc, Bool, true, false, cond, eqb, List, [], ◌∷◌, ◌++◌, map, length, take, drop, IfOk, Some, None, Ok, Option, Result, sym, refl, ap, ◌∙◌, subst, append_assoc, append-nil}
 use Rattle.std.proofs.lemmas.List.{take-append-drop, take-map, drop-map, map-append}
 use Rattle.std.proofs.lemmas.Result.{IfOk-weaker}
 use Rattle.reader.specs.Entries.{Entry, entry_of}
 use Rattle.reader.specs.Files.{MadeOf}
 use Rattle.reader.specs.Kinds.{byte_of}
 use Rattle.reader.specs.Listings.{entries, Lists}
-use Rattle.reader.specs.Readings.{Sited, sited_of}
+use Rattle.reader.specs.Readings.{Sited, sited, sited_of}
 use Rattle.reader.specs.declared.kind.Kind.{Kind}
 use Rattle.reader.specs.declared.kind.Kind.TheVariants as kind
 use Rattle.reader.specs.Endings.{Ending}
@@ -18,6 +18,7 @@ use Rattle.sheet.specs.Runs.{AtMostVisits}
 use Rattle.sheet.specs.declared.fault.SheetFault.{SheetFault}
 use Rattle.judgement.specs.Described.{BookSecond, described_nodes, Bounds, BoundsIn}
 use Rattle.judgement.specs.Drafting.{sheet_length, taken_unless, taking, drafting}
+use Rattle.judgement.specs.Judged.{judged, judging}
 use Rattle.judgement.specs.declared.fault.CheckFault.{CheckFault}
 use Rattle.book.proofs.Reaching.{then_ok}
 
@@ -94,6 +95,12 @@ module _ (ps : List Placed) (k : ℕ) (is : k ≡ sheet_length (map sited_of ps)
 
   pub back_split : (qs : List Placed) → qs ≡ drop k ps → map sited_of qs ≡ drop (sheet_length (map sited_of ps)) (map sited_of ps)
   back_split qs e = ap (map sited_of) e ∙ sym (drop-map sited_of k ps) ∙ ap (λ (m : ℕ). drop m (map sited_of ps)) is
+
+-- what a listing comes to is what its bytes come to
+pub judged_listing : (bytes : List ℕ) (ps : List Placed) (ending : Ending) → Lists bytes ps ending → judged ending (length bytes) (map sited_of ps) ≡ judging bytes
+judged_listing bytes ps ending l =
+    ap (judged ending (length bytes)) l.places
+    ∙ sym (ap (λ (r : List Entry × Ending). judged r.1 (length bytes) (sited 0 r.0)) l.reads)
 
 entries_sited : (ps : List Placed) → map (λ x. x.entry) (map sited_of ps) ≡ entries ps
 entries_sited [] = refl

@@ -48,8 +48,9 @@ impl Draft {
         self.builder.add(part)
     }
 
-    // Whether a sheet can be sealed: a head has come, and the start's limit holds with all clocks at zero.
+    // Whether a sheet can be sealed: a head has come, and the start's limit holds with all clocks at zero. The clause `taken` tells a holder of any draft that there is a list which it took, so that the other clauses speak of one.
     pub fn ready(&self) -> Result<(), SheetFault>
+        ensures taken { ∥ ((es : List Entry) × Took es self.now) ∥₁ }
         ensures value { (es : List Entry) → Took es self.now → result ≡ readiness es }
         ensures start { Starts self.now.automaton result }
     {

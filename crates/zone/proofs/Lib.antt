@@ -1,4 +1,5 @@
 mod PathSums
 mod Promises
+mod Filling
 mod Inhabited
 pub mod FromFn

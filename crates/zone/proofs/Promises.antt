@@ -1,5 +1,5 @@
 -- What the difference kind promises of paths.
-use Rattle.std.proofs.Common.{◌≡◌, ℕ, ◌+◌, ◌*◌, ◌/◌, ◌%◌, ◌<◌, ◌≤◌, Bool, true, false, ◌&&◌, T, List, None, Some, leb, ◌≢◌, Ok, Err, sym, refl, ap, ◌∙◌, arith}
+use Rattle.std.proofs.Common.{◌≡◌, ℕ, ◌+◌, ◌*◌, ◌/◌, ◌%◌, ◌<◌, ◌≤◌, Bool, true, false, ◌&&◌, T, leb, Ok, Err, sym, refl, ap, ◌∙◌, arith}
 use Rattle.std.proofs.lemmas.List.Folds.{list_all_at}
 use Rattle.std.proofs.lemmas.Bool.{and_parts, and_cases, leb-true, true≢false}
 use Rattle.zone.specs.declared.bound.Bound.{Bound}
@@ -27,24 +27,18 @@ use Rattle.zone.specs.Zones.{row_of}
 use Rattle.zone.specs.InRange.{range_i, range_j}
 
 pub row_closed : (r : DifferenceRow) → proper r ≡ true → ClosedByPaths r
-row_closed r h m e = entry_tightest r.clocks (countable_high r.clocks (proper_countable r h)) (entry m) (proper_closed r h m e)
-
-none≢some : {m : List Bound} → None ≢ Some m
-none≢some e = let v : ◌≡◌ {A = ℕ} 0 1 = cc in omega arith
-
-some_same : {m o : List Bound} → Some m ≡ Some o → m ≡ o
-some_same e = cc
+row_closed r h e = entry_tightest r.clocks (countable_high r.clocks (proper_countable r h)) (entry r.bounds) (proper_closed r h e)
 
 -- two bounds that are both the tightest are one
 tightest_once : (given : Given) (p q : ℕ) (a b : Bound) → Tightest given p q a → Tightest given p q b → a ≡ b
 tightest_once given p q a b s t = implies_both a b (so _ (s.1 b t.0)) (so _ (t.1 a s.0))
 
-module _ (z : DifferenceZone) (c : Constraint) (h : in_range z.row.clocks c ≡ true) (m : List Bound) (full : z.row.bounds ≡ Some m) where
+module _ (z : DifferenceZone) (c : Constraint) (h : in_range z.row.clocks c ≡ true) (full : z.row.empty ≡ false) where
   abbrev n : ℕ
   n = z.row.clocks
 
   abbrev old : Grid
-  old = entry m
+  old = entry z.row.bounds
 
   abbrev grid : Grid
   grid = tightened_grid old c.i c.j (bound_of c)
@@ -52,8 +46,8 @@ module _ (z : DifferenceZone) (c : Constraint) (h : in_range z.row.clocks c ≡ 
   six : z.row.clocks ≤ 6
   six = countable_high z.row.clocks (proper_countable z.row z.fitting)
 
-  closed_old : Closed z.row.clocks (entry m)
-  closed_old = proper_closed z.row z.fitting m full
+  closed_old : Closed z.row.clocks (entry z.row.bounds)
+  closed_old = proper_closed z.row z.fitting full
 
   abbrev i_in : c.i ≤ z.row.clocks
   i_in = range_i z.row.clocks c h
@@ -88,10 +82,10 @@ module _ (z : DifferenceZone) (c : Constraint) (h : in_range z.row.clocks c ≡ 
       wide_inside s (k / 7) (k % 7) (omega arith) (omega arith) (rw (listed_at grid k l) at f) (leb (k / 7) n && leb (k % 7) n) refl
 
   abbrev given : Given
-  given = Constraining z.row.clocks m c
+  given = Constraining z.row c
 
   -- a contradiction was found
-  promise_empty : implies nil (plus (bound_of c) (old c.j c.i)) ≡ false → Tightens z.row.clocks m c (Ok (of_row (empty_row n)))
+  promise_empty : implies nil (plus (bound_of c) (old c.j c.i)) ≡ false → Tightens z c (Ok (of_row (empty_row n)))
   unfolding empty_row
   promise_empty s =
       let f : Contradiction given = found n six old closed_old c.i c.j (bound_of c) i_in j_in s in
@@ -99,9 +93,9 @@ module _ (z : DifferenceZone) (c : Constraint) (h : in_range z.row.clocks c ≡ 
       record {
         empties = λ _. refl;
         empties_only = λ y e t. f;
-        tightest = λ y o e t.
+        tightest = λ y e t.
             let u : of_row (empty_row n) ≡ y = cc in
-            absurd (none≢some (ap (λ (r : DifferenceRow). r.bounds) (sym w ∙ ap (λ (x : DifferenceZone). x.row) u) ∙ t));
+            absurd (true≢false (ap (λ (r : DifferenceRow). r.empty) (sym w ∙ ap (λ (x : DifferenceZone). x.row) u) ∙ t));
         refuses = λ nf. absurd (nf f);
         refuses_only = λ e u. let v : ◌≡◌ {A = ℕ} 0 1 = cc in absurd (omega arith);
       }
@@ -114,38 +108,41 @@ module _ (z : DifferenceZone) (c : Constraint) (h : in_range z.row.clocks c ≡ 
     new_tightest = tightened_tightest n six old closed_old c.i c.j (bound_of c) i_in j_in (so _ s)
 
     -- a constant is too large
-    promise_wide : all_narrow (listed grid) ≡ false → Tightens z.row.clocks m c (Err TooWide)
+    promise_wide : all_narrow (listed grid) ≡ false → Tightens z c (Err TooWide)
     promise_wide a =
         record {
           empties = λ f. absurd (no_contradiction f);
           empties_only = λ y e t. let v : ◌≡◌ {A = ℕ} 0 1 = cc in absurd (omega arith);
-          tightest = λ y o e t. let v : ◌≡◌ {A = ℕ} 0 1 = cc in absurd (omega arith);
+          tightest = λ y e t. let v : ◌≡◌ {A = ℕ} 0 1 = cc in absurd (omega arith);
           refuses = λ nf p q b l k t w. refl;
           refuses_only = λ e u. (no_contradiction, let (p, q, l, k, w) = wide_some (so _ s) a in (p, q, grid p q, l, k, new_tightest p q l k, w));
         }
 
-    kept_bounds : all_narrow (listed grid) ≡ true → (y : DifferenceZone) → of_row (grid_row n grid) ≡ y → y.row.bounds ≡ Some (listed grid)
+    kept_entry : all_narrow (listed grid) ≡ true → (y : DifferenceZone) → of_row (grid_row n grid) ≡ y → (p q : ℕ) → p ≤ n → q ≤ n → entry y.row.bounds p q ≡ grid p q
     unfolding grid_row
-    kept_bounds a y e =
-        let w : (of_row (grid_row n grid)).row ≡ grid_row n grid = row_of (grid_row n grid) (proper_with z.row z.fitting m full c.i c.j (bound_of c) i_in j_in s a) in
-        ap (λ (r : DifferenceRow). r.bounds) (ap (λ (x : DifferenceZone). x.row) (sym e) ∙ w)
+    kept_entry a y e p q l k =
+        let six : z.row.clocks ≤ 6 = six in
+        let w : (of_row (grid_row n grid)).row ≡ grid_row n grid = row_of (grid_row n grid) (proper_with z.row z.fitting full c.i c.j (bound_of c) i_in j_in s a) in
+        ap (λ (r : DifferenceRow). entry r.bounds p q) (ap (λ (x : DifferenceZone). x.row) (sym e) ∙ w) ∙ entry_listed grid p q (omega arith) (omega arith)
+
+    kept_full : all_narrow (listed grid) ≡ true → (y : DifferenceZone) → of_row (grid_row n grid) ≡ y → y.row.empty ≡ false
+    unfolding grid_row
+    kept_full a y e =
+        let w : (of_row (grid_row n grid)).row ≡ grid_row n grid = row_of (grid_row n grid) (proper_with z.row z.fitting full c.i c.j (bound_of c) i_in j_in s a) in
+        ap (λ (r : DifferenceRow). r.empty) (ap (λ (x : DifferenceZone). x.row) (sym e) ∙ w)
 
     -- the new bounds are those of a zone
-    promise_kept : all_narrow (listed grid) ≡ true → Tightens z.row.clocks m c (Ok (of_row (grid_row n grid)))
+    promise_kept : all_narrow (listed grid) ≡ true → Tightens z c (Ok (of_row (grid_row n grid)))
     promise_kept a =
         record {
           empties = λ f. absurd (no_contradiction f);
-          empties_only = λ y e t. let u : of_row (grid_row n grid) ≡ y = cc in absurd (none≢some (sym t ∙ kept_bounds a y u));
-          tightest = λ y o e t p q l k.
-              let six : z.row.clocks ≤ 6 = six in
-              let u : of_row (grid_row n grid) ≡ y = cc in
-              let v : o ≡ listed grid = some_same (sym t ∙ kept_bounds a y u) in
-              rw (v, entry_listed grid p q (omega arith) (omega arith)) (new_tightest p q l k);
+          empties_only = λ y e t. let u : of_row (grid_row n grid) ≡ y = cc in absurd (true≢false (sym t ∙ kept_full a y u));
+          tightest = λ y e t p q l k. let u : of_row (grid_row n grid) ≡ y = cc in rw (kept_entry a y u p q l k) (new_tightest p q l k);
           refuses = λ nf p q b l k t w.
               let g : b ≡ grid p q = tightest_once given p q b (grid p q) t (new_tightest p q l k) in
               absurd (true≢false (sym a ∙ wide_at p q l k (rw g at w)));
           refuses_only = λ e u. let v : ◌≡◌ {A = ℕ} 0 1 = cc in absurd (omega arith);
         }
 
-  pub granted_tightens : Tightens z.row.clocks m c (granted (tightened_row z.row c.i c.j (bound_of c)))
-  granted_tightens = tightened_some z.row c.i c.j (bound_of c) m full (λ t. Tightens z.row.clocks m c (granted t)) promise_empty promise_wide promise_kept
+  pub granted_tightens : Tightens z c (granted (tightened_row z.row c.i c.j (bound_of c)))
+  granted_tightens = tightened_some z.row c.i c.j (bound_of c) full (λ t. Tightens z c (granted t)) promise_empty promise_wide promise_kept

@@ -1,5 +1,5 @@
 -- The calls of the difference kind, and the meaning of its zones.
-use Rattle.std.specs.Prelude.{◌≡◌, ℕ, ◌≤◌, true, is_none, IsSomeAnd, Ok, Err, Result, refl}
+use Rattle.std.specs.Prelude.{◌≡◌, ℕ, ◌≤◌, true, false, Ok, Err, Result, refl}
 use Rattle.zone.specs.declared.constraint.Constraint.{Constraint}
 use Rattle.zone.specs.declared.difference.DifferenceZone.{DifferenceZone}
 use Rattle.zone.specs.declared.difference.row.DifferenceRow.{DifferenceRow}
@@ -7,14 +7,14 @@ use Rattle.zone.specs.declared.fault.ZoneFault.{ZoneFault}
 use Rattle.zone.specs.Bounds.{Obeys, bound_of}
 use Rattle.zone.specs.Calls.{Calls}
 use Rattle.zone.specs.Checked.{zone_of}
-use Rattle.zone.specs.DifferenceRows.{proper, empty_row, whole_row, elapsed_row, reset_row, tightened_row, within_rows, zero_row}
+use Rattle.zone.specs.DifferenceRows.{proper, empty_row, whole_row, elapsed_row, reset_row, tightened_row, within_rows, zero_row, blank}
 use Rattle.zone.specs.Grids.{entry}
 use Rattle.zone.specs.Judging.{judged, judged_clock, and_then}
 use Rattle.zone.specs.Valuations.{Valuation, reading}
 
 -- the empty zone of one clock
 unfoldable pub void : DifferenceZone
-unfolding proper empty_row
+unfolding proper empty_row blank
 void = record { row = empty_row 1; fitting = refl }
 
 -- the zone of a row that passes the test
@@ -32,7 +32,7 @@ granted (Err e) = Err e
 
 -- not empty, and the readings of every two clocks of 0 to n obey the bound of their difference
 unfoldable pub Holds : DifferenceRow → ℕ → Valuation → Type 0
-Holds r k v = IsSomeAnd r.bounds (λ m. (p q : ℕ) → p ≤ r.clocks → q ≤ r.clocks → Obeys k (entry m p q) (reading v p) (reading v q))
+Holds r k v = (r.empty ≡ false) × ((p q : ℕ) → p ≤ r.clocks → q ≤ r.clocks → Obeys k (entry r.bounds p q) (reading v p) (reading v q))
 
 -- judged, and then with the bound that the constraint sets
 unfoldable pub constrained : DifferenceZone → Constraint → Result DifferenceZone ZoneFault
@@ -44,4 +44,4 @@ reset z x = and_then (judged_clock z.row.clocks x) (λ _. Ok (of_row (reset_row 
 
 -- all of these
 abbrev pub difference_calls : Calls DifferenceZone DifferenceRow
-difference_calls = record { holds = λ z. Holds z.row; differences = true; clocks = λ z. z.row.clocks; whole = λ n. of_row (whole_row n); void = void; constrained = constrained; elapsed = λ z. of_row (elapsed_row z.row); reset = reset; empty = λ z. is_none z.row.bounds; within = λ y z. within_rows y.row z.row; holds_zero = λ z. zero_row z.row; row = λ z. z.row; of_row = of_row }
+difference_calls = record { holds = λ z. Holds z.row; differences = true; clocks = λ z. z.row.clocks; whole = λ n. of_row (whole_row n); void = void; constrained = constrained; elapsed = λ z. of_row (elapsed_row z.row); reset = reset; empty = λ z. z.row.empty; within = λ y z. within_rows y.row z.row; holds_zero = λ z. zero_row z.row; row = λ z. z.row; of_row = of_row }

@@ -1,11 +1,9 @@
 -- The laws of the difference kind.
-use Rattle.std.specs.Prelude.{◌≡◌, ℕ, ◌+◌, ◌*◌, ◌<◌, ◌≤◌, Bool, true, false, ◌&&◌, ◌⊎◌, List, Option, None, Some, is_none, IsSomeAnd, Ok, Err, ◌≢◌, nat_le, slice_index_or, refl}
-use Rattle.std.specs.Option.{option_map_or}
+use Rattle.std.specs.Prelude.{◌≡◌, ℕ, ◌+◌, ◌*◌, ◌<◌, ◌≤◌, Bool, true, false, not, ◌&&◌, ◌⊎◌, Ok, Err, ◌≢◌, nat_le, slice_index_or, refl}
 use Rattle.std.proofs.Common.{sym, ◌∙◌, ap, inl, inr, arith}
-use Rattle.std.proofs.lemmas.Bool.{and_parts, and_right, leb-true, eqb-true, false≢true}
-use Rattle.std.specs.List.{list_all}
+use Rattle.std.proofs.lemmas.Bool.{and_parts, and_right, or_cases, not-true, leb-true, eqb-true, true≢false, false≢true}
+use Rattle.std.specs.List.{list_all, zip}
 use Rattle.std.proofs.lemmas.List.Sums.{AllPass-from_list_all}
-use Rattle.zone.specs.declared.bound.Bound.{Bound}
 use Rattle.zone.specs.declared.bound.Bound.TheVariants.{Free}
 use Rattle.zone.specs.declared.constraint.Constraint.{Constraint}
 use Rattle.zone.specs.declared.difference.DifferenceZone.{DifferenceZone}
@@ -14,7 +12,7 @@ use Rattle.zone.specs.declared.fault.ZoneFault.{ZoneFault}
 use Rattle.zone.specs.declared.fault.ZoneFault.TheVariants.{OutOfRange, TooWide}
 use Rattle.zone.specs.Bounds.{nil, implies, plus, bound_of, Obeys}
 use Rattle.zone.specs.DifferenceCalls.{void, of_row, granted, Holds, constrained, reset, difference_calls}
-use Rattle.zone.specs.DifferenceRows.{proper, empty_row, grid_row, whole_row, elapsed_row, reset_row, tightened_row, within_bounds, within_rows, zero_row}
+use Rattle.zone.specs.DifferenceRows.{proper, empty_row, grid_row, whole_row, elapsed_row, reset_row, tightened_row, within_rows, zero_row}
 use Rattle.zone.specs.Grids.{Grid, entry, whole_grid, elapsed_grid, reset_grid, tightened_grid}
 use Rattle.zone.specs.Laws.{Laws, countable, in_range, difference}
 use Rattle.zone.specs.Valuations.{Valuation, Meets, reading, waited, zeroed, origin}
@@ -38,20 +36,16 @@ holds_of r k v h w = rw (row_of r h) w
 -- the bounds of a grid of n clocks are obeyed
 holds_grid : (n k : ℕ) (d : Grid) (v : Valuation) → n ≤ 6 → ((p q : ℕ) → p ≤ n → q ≤ n → Obeys k (d p q) (reading v p) (reading v q)) → Holds (grid_row n d) k v
 unfolding Holds grid_row
-holds_grid n k d v s h = λ p q l i. rw (entry_listed d p q (omega arith) (omega arith)) (h p q l i)
+holds_grid n k d v s h = (refl, λ p q l i. rw (entry_listed d p q (omega arith) (omega arith)) (h p q l i))
 
--- a row that holds something has bounds, which are obeyed
-obeyed : (r : DifferenceRow) (k : ℕ) (v : Valuation) → Holds r k v → (m : List Bound) → r.bounds ≡ Some m → (p q : ℕ) → p ≤ r.clocks → q ≤ r.clocks → Obeys k (entry m p q) (reading v p) (reading v q)
+-- a row that holds something is not empty, and its bounds are obeyed
+full : (r : DifferenceRow) (k : ℕ) (v : Valuation) → Holds r k v → r.empty ≡ false
 unfolding Holds
-obeyed r k v h m e = rw e at h
+full r k v h = h.0
 
-full : (r : DifferenceRow) (k : ℕ) (v : Valuation) → Holds r k v → (m : List Bound) × (r.bounds ≡ Some m)
+obeyed : (r : DifferenceRow) (k : ℕ) (v : Valuation) → Holds r k v → (p q : ℕ) → p ≤ r.clocks → q ≤ r.clocks → Obeys k (entry r.bounds p q) (reading v p) (reading v q)
 unfolding Holds
-full r k v h = go r.bounds refl
-  where
-    go : (o : Option (List Bound)) → r.bounds ≡ o → (m : List Bound) × (r.bounds ≡ Some m)
-    go None e = absurd (rw e at h)
-    go (Some m) e = (m, e)
+obeyed r k v h = h.1
 
 -- ---- whole
 
@@ -80,7 +74,7 @@ pub void_clocks : void.row.clocks ≡ 1
 unfolding void empty_row
 void_clocks = refl
 
-pub void_empty : is_none void.row.bounds ≡ true
+pub void_empty : void.row.empty ≡ true
 unfolding void empty_row
 void_empty = refl
 
@@ -95,60 +89,60 @@ constrained_clocks z y c e = go (in_range z.row.clocks c) refl
         let u : of_row r ≡ y = cc in
         ap (λ (x : DifferenceZone). x.row.clocks) (sym u) ∙ (ap (λ (s : DifferenceRow). s.clocks) (row_of r h) ∙ f)
 
-    given : in_range z.row.clocks c ≡ true → (o : Option (List Bound)) → z.row.bounds ≡ o → granted (tightened_row z.row c.i c.j (bound_of c)) ≡ Ok y → y.row.clocks ≡ z.row.clocks
-    given h None f = λ g. same z.row z.fitting refl (rw (tightened_empty z.row c.i c.j (bound_of c) f) at g)
-    given h (Some m) f =
-        tightened_some z.row c.i c.j (bound_of c) m f (λ t. granted t ≡ Ok y → y.row.clocks ≡ z.row.clocks)
+    given : in_range z.row.clocks c ≡ true → (t : Bool) → z.row.empty ≡ t → granted (tightened_row z.row c.i c.j (bound_of c)) ≡ Ok y → y.row.clocks ≡ z.row.clocks
+    given h true f = λ g. same z.row z.fitting refl (rw (tightened_empty z.row c.i c.j (bound_of c) f) at g)
+    given h false f =
+        tightened_some z.row c.i c.j (bound_of c) f (λ t. granted t ≡ Ok y → y.row.clocks ≡ z.row.clocks)
         (λ _ g. same (empty_row z.row.clocks) (proper_empty z.row.clocks (proper_countable z.row z.fitting)) refl g)
         (λ _ _ g. let v : ◌≡◌ {A = ℕ} 0 1 = cc in absurd (omega arith))
-        (λ s a g. same (grid_row z.row.clocks (tightened_grid (entry m) c.i c.j (bound_of c))) (proper_with z.row z.fitting m f c.i c.j (bound_of c) (range_i z.row.clocks c h) (range_j z.row.clocks c h) s a) refl g)
+        (λ s a g. same (grid_row z.row.clocks (tightened_grid (entry z.row.bounds) c.i c.j (bound_of c))) (proper_with z.row z.fitting f c.i c.j (bound_of c) (range_i z.row.clocks c h) (range_j z.row.clocks c h) s a) refl g)
 
     go : (t : Bool) → in_range z.row.clocks c ≡ t → y.row.clocks ≡ z.row.clocks
-    go true h = given h z.row.bounds refl (sym (constrained_in z c h) ∙ e)
+    go true h = given h z.row.empty refl (sym (constrained_in z c h) ∙ e)
     go false h = let g = constrained_out z c h in let v : ◌≡◌ {A = ℕ} 0 1 = cc in absurd (omega arith)
 
 pub constrained_wide : (z : DifferenceZone) (c : Constraint) (e : ZoneFault) → in_range z.row.clocks c ≡ true → constrained z c ≡ Err e → e ≡ TooWide
-constrained_wide z c e h g = go z.row.bounds refl (sym (constrained_in z c h) ∙ g)
+constrained_wide z c e h g = go z.row.empty refl (sym (constrained_in z c h) ∙ g)
   where
-    go : (o : Option (List Bound)) → z.row.bounds ≡ o → granted (tightened_row z.row c.i c.j (bound_of c)) ≡ Err e → e ≡ TooWide
-    go None f = λ g. let u = rw (tightened_empty z.row c.i c.j (bound_of c) f) at g in let v : ◌≡◌ {A = ℕ} 0 1 = cc in absurd (omega arith)
-    go (Some m) f =
-        tightened_some z.row c.i c.j (bound_of c) m f (λ t. granted t ≡ Err e → e ≡ TooWide)
+    go : (t : Bool) → z.row.empty ≡ t → granted (tightened_row z.row c.i c.j (bound_of c)) ≡ Err e → e ≡ TooWide
+    go true f = λ g. let u = rw (tightened_empty z.row c.i c.j (bound_of c) f) at g in let v : ◌≡◌ {A = ℕ} 0 1 = cc in absurd (omega arith)
+    go false f =
+        tightened_some z.row c.i c.j (bound_of c) f (λ t. granted t ≡ Err e → e ≡ TooWide)
         (λ _ f. let v : ◌≡◌ {A = ℕ} 0 1 = cc in absurd (omega arith))
         (λ _ _ f. cc)
         (λ _ _ f. let v : ◌≡◌ {A = ℕ} 0 1 = cc in absurd (omega arith))
 
 module _ (z y : DifferenceZone) (c : Constraint) (k : ℕ) (v : Valuation) (l : 0 < k) (w : Holds z.row k v) (m : Meets k v c) where
-  module _ (h : in_range z.row.clocks c ≡ true) (o : List Bound) (f : z.row.bounds ≡ Some o) where
-    new_obeyed : (p q : ℕ) → p ≤ z.row.clocks → q ≤ z.row.clocks → Obeys k (tightened_grid (entry o) c.i c.j (bound_of c) p q) (reading v p) (reading v q)
+  module _ (h : in_range z.row.clocks c ≡ true) (f : z.row.empty ≡ false) where
+    new_obeyed : (p q : ℕ) → p ≤ z.row.clocks → q ≤ z.row.clocks → Obeys k (tightened_grid (entry z.row.bounds) c.i c.j (bound_of c) p q) (reading v p) (reading v q)
     unfolding tightened_grid
     new_obeyed p q i j =
-        let old = obeyed z.row k v w o f in
-        tighter_of (λ x. Obeys k x (reading v p) (reading v q)) (entry o p q) (plus (plus (entry o p c.i) (bound_of c)) (entry o c.j q)) (old p q i j)
-        (obeys_plus k (plus (entry o p c.i) (bound_of c)) (entry o c.j q) (reading v p) (reading v c.j) (reading v q)
-        (obeys_plus k (entry o p c.i) (bound_of c) (reading v p) (reading v c.i) (reading v c.j) (old p c.i i (range_i z.row.clocks c h)) (meets_obeys k v c m))
+        let old = obeyed z.row k v w in
+        tighter_of (λ x. Obeys k x (reading v p) (reading v q)) (entry z.row.bounds p q) (plus (plus (entry z.row.bounds p c.i) (bound_of c)) (entry z.row.bounds c.j q)) (old p q i j)
+        (obeys_plus k (plus (entry z.row.bounds p c.i) (bound_of c)) (entry z.row.bounds c.j q) (reading v p) (reading v c.j) (reading v q)
+        (obeys_plus k (entry z.row.bounds p c.i) (bound_of c) (reading v p) (reading v c.i) (reading v c.j) (old p c.i i (range_i z.row.clocks c h)) (meets_obeys k v c m))
         (old c.j q (range_j z.row.clocks c h) j))
 
-    no_cycle : implies nil (plus (bound_of c) (entry o c.j c.i)) ≢ false
+    no_cycle : implies nil (plus (bound_of c) (entry z.row.bounds c.j c.i)) ≢ false
     no_cycle s =
-        let t = obeys_itself k (plus (bound_of c) (entry o c.j c.i)) (reading v c.i) l
-        (obeys_plus k (bound_of c) (entry o c.j c.i) (reading v c.i) (reading v c.j) (reading v c.i) (meets_obeys k v c m) (obeyed z.row k v w o f c.j c.i (range_j z.row.clocks c h) (range_i z.row.clocks c h))) in
+        let t = obeys_itself k (plus (bound_of c) (entry z.row.bounds c.j c.i)) (reading v c.i) l
+        (obeys_plus k (bound_of c) (entry z.row.bounds c.j c.i) (reading v c.i) (reading v c.j) (reading v c.i) (meets_obeys k v c m) (obeyed z.row k v w c.j c.i (range_j z.row.clocks c h) (range_i z.row.clocks c h))) in
         rw s at t
 
     new_holds : granted (tightened_row z.row c.i c.j (bound_of c)) ≡ Ok y → Holds y.row k v
     new_holds =
-        tightened_some z.row c.i c.j (bound_of c) o f (λ t. granted t ≡ Ok y → Holds y.row k v)
+        tightened_some z.row c.i c.j (bound_of c) f (λ t. granted t ≡ Ok y → Holds y.row k v)
         (λ s g. absurd (no_cycle s))
         (λ _ _ g. let x : ◌≡◌ {A = ℕ} 0 1 = cc in absurd (omega arith))
         (λ s a g.
-        let u : of_row (grid_row z.row.clocks (tightened_grid (entry o) c.i c.j (bound_of c))) ≡ y = cc in
-        rw (← u) (holds_of (grid_row z.row.clocks (tightened_grid (entry o) c.i c.j (bound_of c))) k v (proper_with z.row z.fitting o f c.i c.j (bound_of c) (range_i z.row.clocks c h) (range_j z.row.clocks c h) s a) (holds_grid z.row.clocks k (tightened_grid (entry o) c.i c.j (bound_of c)) v (six z) new_obeyed)))
+        let u : of_row (grid_row z.row.clocks (tightened_grid (entry z.row.bounds) c.i c.j (bound_of c))) ≡ y = cc in
+        rw (← u) (holds_of (grid_row z.row.clocks (tightened_grid (entry z.row.bounds) c.i c.j (bound_of c))) k v (proper_with z.row z.fitting f c.i c.j (bound_of c) (range_i z.row.clocks c h) (range_j z.row.clocks c h) s a) (holds_grid z.row.clocks k (tightened_grid (entry z.row.bounds) c.i c.j (bound_of c)) v (six z) new_obeyed)))
 
   pub constrained_holds : constrained z c ≡ Ok y → Holds y.row k v
   constrained_holds e = go (in_range z.row.clocks c) refl
     where
       go : (t : Bool) → in_range z.row.clocks c ≡ t → Holds y.row k v
-      go true h = let (o, f) = full z.row k v w in new_holds h o f (sym (constrained_in z c h) ∙ e)
+      go true h = new_holds h (full z.row k v w) (sym (constrained_in z c h) ∙ e)
       go false h = let g = constrained_out z c h in let x : ◌≡◌ {A = ℕ} 0 1 = cc in absurd (omega arith)
 
 -- ---- time
@@ -167,8 +161,7 @@ module _ (k d : ℕ) (v : Valuation) (old : Grid) (n : ℕ) (h : (p q : ℕ) →
 
 pub elapsed_holds : (z : DifferenceZone) (k d : ℕ) (v : Valuation) → 0 < k → Holds z.row k v → Holds (of_row (elapsed_row z.row)).row k (waited v d)
 elapsed_holds z k d v l h =
-    let (m, e) = full z.row k v h in
-    holds_of (elapsed_row z.row) k (waited v d) (proper_elapsed z.row z.fitting) (rw (changed_is elapsed_grid z.row m e) (holds_grid z.row.clocks k (elapsed_grid (entry m)) (waited v d) (six z) (λ p q i j. waited_obeyed k d v (entry m) z.row.clocks (obeyed z.row k v h m e) p q i j (above p) (above q))))
+    holds_of (elapsed_row z.row) k (waited v d) (proper_elapsed z.row z.fitting) (rw (changed_is elapsed_grid z.row (full z.row k v h)) (holds_grid z.row.clocks k (elapsed_grid (entry z.row.bounds)) (waited v d) (six z) (λ p q i j. waited_obeyed k d v (entry z.row.bounds) z.row.clocks (obeyed z.row k v h) p q i j (above p) (above q))))
 
 -- ---- a clock set to zero
 
@@ -206,13 +199,12 @@ zeroed_obeyed k x n v old under h p q l i =
 pub reset_holds : (z y : DifferenceZone) (x k : ℕ) (v : Valuation) → reset z x ≡ Ok y → 0 < k → Holds z.row k v → Holds y.row k (zeroed v x)
 reset_holds z y x k v e l h =
     let g = reset_gives z y x e in
-    let (m, f) = full z.row k v h in
-    rw (g.1, changed_is (λ d. reset_grid d x) z.row m f) (holds_grid z.row.clocks k (reset_grid (entry m) x) (zeroed v x) (six z) (zeroed_obeyed k x z.row.clocks v (entry m) g.0 (obeyed z.row k v h m f)))
+    rw (g.1, changed_is (λ d. reset_grid d x) z.row (full z.row k v h)) (holds_grid z.row.clocks k (reset_grid (entry z.row.bounds) x) (zeroed v x) (six z) (zeroed_obeyed k x z.row.clocks v (entry z.row.bounds) g.0 (obeyed z.row k v h)))
 
 -- ---- answers
 
-pub empty_sound : (z : DifferenceZone) (k : ℕ) (v : Valuation) → is_none z.row.bounds ≡ true → 0 < k → Holds z.row k v → ⊥
-empty_sound z k v e l h = let (m, f) = full z.row k v h in false≢true (rw f at e)
+pub empty_sound : (z : DifferenceZone) (k : ℕ) (v : Valuation) → z.row.empty ≡ true → 0 < k → Holds z.row k v → ⊥
+empty_sound z k v e l h = true≢false (sym e ∙ full z.row k v h)
 
 pub within_clocks : (y z : DifferenceZone) → within_rows y.row z.row ≡ true → y.row.clocks ≡ z.row.clocks
 unfolding within_rows
@@ -220,25 +212,26 @@ within_clocks y z e = eqb-true _ _ (and_parts _ _ e).0
 
 pub within_sound : (y z : DifferenceZone) (k : ℕ) (v : Valuation) → within_rows y.row z.row ≡ true → 0 < k → Holds y.row k v → Holds z.row k v
 unfolding within_rows Holds entry
-within_sound y z k v e l h = go y.row.bounds refl z.row.bounds refl (and_parts _ _ e).1 h
+within_sound y z k v e l h = go (or_cases _ _ (and_parts _ _ e).1)
   where
-    go : (o : Option (List Bound)) → y.row.bounds ≡ o → (u : Option (List Bound)) → z.row.bounds ≡ u → within_bounds o u ≡ true → IsSomeAnd o (λ m. (p q : ℕ) → p ≤ y.row.clocks → q ≤ y.row.clocks → Obeys k (entry m p q) (reading v p) (reading v q)) → IsSomeAnd u (λ m. (p q : ℕ) → p ≤ z.row.clocks → q ≤ z.row.clocks → Obeys k (entry m p q) (reading v p) (reading v q))
-    go None f u g w h = absurd h
-    go (Some m) f None g w h = absurd (false≢true w)
-    go (Some m) f (Some o) g w h = λ p q i j.
-        let s = six z in
-        let n : y.row.clocks ≡ z.row.clocks = within_clocks y z e in
-        obeys_weaker k (slice_index_or m (7 * p + q) Free) (slice_index_or o (7 * p + q) Free) (reading v p) (reading v q) l (so _ (all_at_zip implies m o w (7 * p + q) Free (omega (arith, proper_length y.row y.fitting m f)) (omega (arith, proper_length z.row z.fitting o g)))) (h p q (omega arith) (omega arith))
+    go : (y.row.empty ≡ true) ⊎ ((not z.row.empty && list_all (λ p. implies p.0 p.1) (zip y.row.bounds z.row.bounds)) ≡ true) → Holds z.row k v
+    go (inl f) = absurd (true≢false (sym f ∙ h.0))
+    go (inr f) = (
+      not-true _ (and_parts _ _ f).0,
+      λ p q i j.
+          let s = six z in
+          let n : y.row.clocks ≡ z.row.clocks = within_clocks y z e in
+          obeys_weaker k (slice_index_or y.row.bounds (7 * p + q) Free) (slice_index_or z.row.bounds (7 * p + q) Free) (reading v p) (reading v q) l (so _ (all_at_zip implies y.row.bounds z.row.bounds (and_parts _ _ f).1 (7 * p + q) Free (omega (arith, proper_length y.row y.fitting)) (omega (arith, proper_length z.row z.fitting)))) (h.1 p q (omega arith) (omega arith)),
+    )
 
 pub zero_sound : (z : DifferenceZone) (k : ℕ) → zero_row z.row ≡ true → 0 < k → Holds z.row k origin
 unfolding zero_row Holds entry
-zero_sound z k e l = go z.row.bounds refl e
-  where
-    go : (o : Option (List Bound)) → z.row.bounds ≡ o → option_map_or (list_all (implies nil)) o false ≡ true → IsSomeAnd o (λ m. (p q : ℕ) → p ≤ z.row.clocks → q ≤ z.row.clocks → Obeys k (entry m p q) (reading origin p) (reading origin q))
-    go None f w = absurd (false≢true w)
-    go (Some m) f w = λ p q i j.
-        let s = six z in
-        rw (reading_origin p, reading_origin q) (obeys_zero k (slice_index_or m (7 * p + q) Free) 0 l (so _ (AllPass-from_list_all (implies nil) m w (7 * p + q) Free (omega (arith, proper_length z.row z.fitting m f)))))
+zero_sound z k e l = (
+  not-true _ (and_parts _ _ e).0,
+  λ p q i j.
+      let s = six z in
+      rw (reading_origin p, reading_origin q) (obeys_zero k (slice_index_or z.row.bounds (7 * p + q) Free) 0 l (so _ (AllPass-from_list_all (implies nil) z.row.bounds (and_parts _ _ e).1 (7 * p + q) Free (omega (arith, proper_length z.row z.fitting))))),
+)
 
 pub difference_laws : Laws difference_calls
 difference_laws = record {

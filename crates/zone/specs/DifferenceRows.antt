@@ -1,6 +1,5 @@
 -- The calls of the difference kind on plain rows.
-use Rattle.std.specs.Prelude.{ℕ, ◌/◌, ◌%◌, Bool, true, false, cond, ◌&&◌, List, length, Option, None, Some, Ok, Err, Result, ◌==◌, slice_index_or}
-use Rattle.std.specs.Option.{option_map, option_map_or}
+use Rattle.std.specs.Prelude.{ℕ, ◌/◌, ◌%◌, Bool, true, false, cond, not, ◌&&◌, ◌||◌, List, length, replicate, Ok, Err, Result, ◌==◌, slice_index_or}
 use Rattle.std.specs.List.{list_all, zip}
 use Rattle.zone.specs.declared.bound.Bound.{Bound}
 use Rattle.zone.specs.declared.bound.Bound.TheVariants.{Free}
@@ -16,21 +15,25 @@ use Rattle.zone.specs.Tests.{every}
 unfoldable pub closed : ℕ → List Bound → Bool
 closed n m = every (λ k. fits n (k / 7) (k % 7) (slice_index_or m k Free)) 49 && every (λ k. triangle (entry m) (k / 49) (k / 7 % 7) (k % 7)) 343
 
+-- every bound is free
+unfoldable pub blank : List Bound → Bool
+blank m = list_all (implies Free) m
+
 -- every constant lies within 1,000,000 either way
 unfoldable pub all_narrow : List Bound → Bool
 all_narrow m = list_all narrow m
 
 -- the row of some zone
 unfoldable pub proper : DifferenceRow → Bool
-proper r = countable r.clocks && option_map_or (λ m. length m == 49 && closed r.clocks m) r.bounds true
+proper r = length r.bounds == 49 && countable r.clocks && cond r.empty (blank r.bounds) (closed r.clocks r.bounds)
 
 -- the row of the empty zone of n clocks
 unfoldable pub empty_row : ℕ → DifferenceRow
-empty_row n = record { clocks = n; bounds = None }
+empty_row n = record { clocks = n; empty = true; bounds = replicate 49 Free }
 
 -- the row of a grid of n clocks
 unfoldable pub grid_row : ℕ → Grid → DifferenceRow
-grid_row n d = record { clocks = n; bounds = Some (listed d) }
+grid_row n d = record { clocks = n; empty = false; bounds = listed d }
 
 -- every valuation of n clocks; the empty zone of one clock where n is no clock count
 unfoldable pub whole_row : ℕ → DifferenceRow
@@ -38,7 +41,7 @@ whole_row n = cond (countable n) (grid_row n (whole_grid n)) (empty_row 1)
 
 -- the grid as f makes it; an empty row stays as it is
 unfoldable pub changed_row : (Grid → Grid) → DifferenceRow → DifferenceRow
-changed_row f r = record { clocks = r.clocks; bounds = option_map (λ m. listed (f (entry m))) r.bounds }
+changed_row f r = cond r.empty r (grid_row r.clocks (f (entry r.bounds)))
 
 -- after any wait
 abbrev pub elapsed_row : DifferenceRow → DifferenceRow
@@ -58,18 +61,12 @@ tightened_by n d i j b = cond (implies nil (plus b (d j i))) (judged_row n (tigh
 
 -- with the bound b of x_i − x_j; an empty row stays as it is
 unfoldable pub tightened_row : DifferenceRow → ℕ → ℕ → Bound → Result DifferenceRow ZoneFault
-tightened_row r i j b = option_map_or (λ m. tightened_by r.clocks (entry m) i j b) r.bounds (Ok r)
+tightened_row r i j b = cond r.empty (Ok r) (tightened_by r.clocks (entry r.bounds) i j b)
 
--- the first is empty, or each of its bounds is at least as tight
-abbrev pub within_bounds : Option (List Bound) → Option (List Bound) → Bool
-within_bounds None o = true
-within_bounds (Some m) None = false
-within_bounds (Some m) (Some l) = list_all (λ p. implies p.0 p.1) (zip m l)
-
--- as many clocks, and the bounds of the first lie within those of the second
+-- as many clocks, and the first is empty or each of its bounds is at least as tight
 unfoldable pub within_rows : DifferenceRow → DifferenceRow → Bool
-within_rows y z = y.clocks == z.clocks && within_bounds y.bounds z.bounds
+within_rows y z = y.clocks == z.clocks && (y.empty || (not z.empty && list_all (λ p. implies p.0 p.1) (zip y.bounds z.bounds)))
 
 -- not empty, and no bound is tighter than ≤ 0
 unfoldable pub zero_row : DifferenceRow → Bool
-zero_row r = option_map_or (list_all (implies nil)) r.bounds false
+zero_row r = not r.empty && list_all (implies nil) r.bounds

@@ -1,5 +1,5 @@
 // The interface of a zone kind: its calls, what a zone means, and the laws that tie the two.
-ghost use Rattle.std.specs.Prelude.{◌≡◌, Bool};
+ghost use Rattle.std.specs.Prelude.{◌≡◌};
 ghost use Rattle.zone.specs.Calls.{Calls};
 ghost use Rattle.zone.specs.Laws.{Laws};
 
@@ -13,17 +13,11 @@ pub trait Zone: Copy {
     // Whether the kind holds bounds on the difference of two clocks.
     const DIFFERENCES: bool;
 
-    ghost DIFFERENCES: { Bool };
-
     ghost calls: { Calls Self Self.Row };
 
-    ghost told: { DIFFERENCES ≡ calls.differences };
-
+    // The constant, as a call of each kind. Not provided over a law of the constant: each kind would owe that law besides.
     fn holds_differences() -> bool
-        ensures { result ≡ calls.differences }
-    {
-        Self::DIFFERENCES
-    }
+        ensures { result ≡ calls.differences };
 
     // Every valuation of so many clocks.
     fn whole(clocks: u8) -> Self

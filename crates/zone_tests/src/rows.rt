@@ -1,10 +1,8 @@
 // Zones as plain data.
-ghost use Rattle.std.specs.Prelude.{◌<◌};
-
 use crate::steps::{at_most, origin, same};
 use std::process::Abort;
 use std::test::Fail;
-use zone::{Bound, BoxZone, DifferenceRow, DifferenceZone, Zone};
+use zone::{Bound, BoxZone, DifferenceZone, Zone};
 
 fn rows_give_zones_again<Z: Zone>(rt: &impl Abort) -> Result<(), Fail> {
     let later = at_most(&origin::<Z>()?.elapse(), 0, 1, -2)?;
@@ -27,17 +25,6 @@ fn is_void<Z: Zone>(zone: &Z) -> bool {
     zone.is_empty() && zone.clocks() == 1
 }
 
-// The row with another bound at place k.
-fn with_bound(row: DifferenceRow, k: usize, bound: Bound) -> DifferenceRow
-    requires { k < 49 }
-{
-    let mut row = row;
-    if let Some(bounds) = &mut row.bounds {
-        bounds[k] = bound;
-    }
-    row
-}
-
 #[test]
 fn difference_rows_of_no_zone(rt: HostRuntime) {
     let row = DifferenceZone::whole(2).row();
@@ -47,27 +34,30 @@ fn difference_rows_of_no_zone(rt: HostRuntime) {
     assert!(rt; is_void(&DifferenceZone::from_row(&none)));
     none.clocks = 7;
     assert!(rt; is_void(&DifferenceZone::from_row(&none)));
-    let negative = with_bound(row, 1, Bound::AtMost(1));
+    let mut negative = row;
+    negative.bounds[1] = Bound::AtMost(1);
     assert!(rt; is_void(&DifferenceZone::from_row(&negative)));
-    let diagonal = with_bound(row, 8, Bound::Below(0));
+    let mut diagonal = row;
+    diagonal.bounds[8] = Bound::Below(0);
     assert!(rt; is_void(&DifferenceZone::from_row(&diagonal)));
-    let outside = with_bound(row, 48, Bound::AtMost(0));
+    let mut outside = row;
+    outside.bounds[48] = Bound::AtMost(0);
     assert!(rt; is_void(&DifferenceZone::from_row(&outside)));
-    let mut empty = row;
-    empty.bounds = None;
-    assert!(rt; DifferenceZone::from_row(&empty).is_empty());
-    assert!(rt; DifferenceZone::from_row(&empty).clocks() == 2);
+    let mut blank = row;
+    blank.empty = true;
+    assert!(rt; is_void(&DifferenceZone::from_row(&blank)));
 }
 
 #[test]
 fn difference_rows_that_are_not_closed(rt: HostRuntime) -> Result<(), Fail> {
     let row = at_most(&DifferenceZone::whole(2), 1, 0, 3)?.row();
-    let open = with_bound(row, 8 + 1, Bound::AtMost(4));
+    let mut open = row;
+    open.bounds[8 + 1] = Bound::AtMost(4);
     assert!(rt; is_void(&DifferenceZone::from_row(&open)));
-    let row = DifferenceZone::whole(1).row();
-    let widest = with_bound(row, 7, Bound::AtMost(1_000_000));
-    assert!(rt; !DifferenceZone::from_row(&widest).is_empty());
-    let wide = with_bound(row, 7, Bound::AtMost(1_000_001));
+    let mut wide = DifferenceZone::whole(1).row();
+    wide.bounds[7] = Bound::AtMost(1_000_000);
+    assert!(rt; !DifferenceZone::from_row(&wide).is_empty());
+    wide.bounds[7] = Bound::AtMost(1_000_001);
     assert!(rt; is_void(&DifferenceZone::from_row(&wide)));
     Ok(())
 }

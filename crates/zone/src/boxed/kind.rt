@@ -1,5 +1,5 @@
 // The box kind of zones.
-ghost use Rattle.std.specs.Prelude.{◌≡◌, refl, ℕ, ◌+◌, ◌<◌, true, false};
+ghost use Rattle.std.specs.Prelude.{◌≡◌, ℕ, ◌+◌, ◌<◌, true, false};
 ghost use Rattle.zone.specs.declared.boxed.range.Range.{Range};
 ghost use Rattle.zone.specs.BoxCalls.{Holds, box_calls, of_row};
 ghost use Rattle.zone.specs.BoxRows.{range_at, proper, empty_row, changed_row};
@@ -45,13 +45,13 @@ impl Zone for BoxZone {
 
     const DIFFERENCES: bool = false;
 
-    ghost DIFFERENCES = { false };
-
     ghost calls = { box_calls };
 
-    ghost told = { refl };
-
     ghost sound = { box_laws };
+
+    fn holds_differences() -> bool {
+        Self::DIFFERENCES
+    }
 
     #[tactic(auto, using(crate::specs::BoxRowsLemmas::proper_whole))]
     fn whole(clocks: u8) -> BoxZone {

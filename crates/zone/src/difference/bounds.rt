@@ -4,27 +4,28 @@ ghost use Rattle.std.specs.List.{list_all, zip};
 ghost use Rattle.zone.specs.declared.bound.Bound.TheVariants.{Free};
 ghost use Rattle.zone.specs.declared.bound.Bound.{Bound};
 ghost use Rattle.zone.specs.Bounds.{nil, size, implies, bound_of};
-ghost use Rattle.zone.specs.DifferenceRows.{closed, all_narrow};
+ghost use Rattle.zone.specs.DifferenceRows.{blank, closed, all_narrow};
 ghost use Rattle.zone.specs.Tests.{every};
 ghost use Rattle.zone.specs.Grids.{Grid, entry, listed, whole_grid, elapsed_grid, reset_grid, tightened_grid, fits, triangle};
 
 use crate::bound::Bound;
 use crate::constraint::Constraint;
-use std::array;
 
 // No constant of a matrix is further from 0.
 const LIMIT: u32 = 1_000_000;
 
-// The 49 bounds that the rule gives, row by row.
+// The 49 bounds that the rule gives, row by row. Two loops: one over the 49 places would divide at each, and `array::from_fn` copies the array besides.
 fn grid<F: Fn(usize, usize) -> Bound>(rule: F) -> [Bound; 49]
     requires { (p q : ℕ) → p < 7 → q < 7 → F.pre rule p q }
     ensures { (d : Grid) → ((p q : ℕ) (b : Bound) → p < 7 → q < 7 → F.post rule p q b → b ≡ d p q) → result ≡ listed d }
 {
-    array::from_fn(
-        |k|
-            requires { F.pre rule (k / 7) (k % 7) }
-        { rule(k / 7, k % 7) },
-    )
+    let mut bounds = [Bound::Free; 49];
+    for p in 0..7 {
+        for q in 0..7 {
+            bounds[7 * p + q] = rule(p, q);
+        }
+    }
+    bounds
 }
 
 pub(super) fn whole(clocks: u8) -> [Bound; 49]
@@ -73,6 +74,15 @@ pub(super) fn tightened(bounds: &[Bound; 49], constraint: Constraint) -> [Bound;
         let via = bounds[7 * p + i].plus(bound).plus(bounds[7 * j + q]);
         bounds[7 * p + q].tighter(via)
     })
+}
+
+// Whether no bound says anything, as in an empty row.
+#[tactic(auto, unfolding(crate::specs::DifferenceRows::blank))]
+pub(super) fn is_blank(bounds: &[Bound; 49]) -> bool
+    ensures value { result ≡ blank bounds.now }
+    ensures long { length bounds.now ≡ 49 }
+{
+    bounds.iter().all(|bound| Bound::Free.implies(*bound))
 }
 
 #[tactic(auto, unfolding(crate::specs::DifferenceRows::all_narrow))]

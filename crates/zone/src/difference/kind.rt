@@ -1,6 +1,5 @@
 // The difference kind of zones.
-ghost use Rattle.std.specs.Prelude.{◌≡◌, refl, ◌≤◌, true, false};
-ghost use Rattle.std.specs.Option.{ForSome};
+ghost use Rattle.std.specs.Prelude.{◌≡◌, ◌≤◌, true, false};
 ghost use Rattle.zone.specs.Bounds.{bound_of};
 ghost use Rattle.zone.specs.DifferenceCalls.{difference_calls, of_row, granted, constrained};
 ghost use Rattle.zone.specs.DifferencePaths.{ClosedByPaths, Tightens};
@@ -30,22 +29,23 @@ impl DifferenceZone {
         requires { in_range self.now.row.clocks constraint ≡ true }
         ensures { result ≡ granted (tightened_row self.now.row constraint.i constraint.j (bound_of constraint)) }
     {
-        let Some(bounds) = &self.row.bounds else {
+        if self.row.empty {
             return Ok(*self);
-        };
+        }
         let i = usize::from(constraint.i);
         let j = usize::from(constraint.j);
         let bound = Bound::from(constraint);
-        if !Bound::ZERO.implies(bound.plus(bounds[7 * j + i])) {
+        if !Bound::ZERO.implies(bound.plus(self.row.bounds[7 * j + i])) {
             return Ok(DifferenceZone::of(DifferenceRow::empty(self.row.clocks)));
         }
-        let bounds = bounds::tightened(bounds, constraint);
+        let bounds = bounds::tightened(&self.row.bounds, constraint);
         if !bounds::are_narrow(&bounds) {
             return Err(ZoneFault::TooWide);
         }
         Ok(DifferenceZone::of(DifferenceRow {
-            bounds: Some(bounds),
-            ..self.row
+            clocks: self.row.clocks,
+            empty: false,
+            bounds,
         }))
     }
 }
@@ -55,13 +55,13 @@ impl Zone for DifferenceZone {
 
     const DIFFERENCES: bool = true;
 
-    ghost DIFFERENCES = { true };
-
     ghost calls = { difference_calls };
 
-    ghost told = { refl };
-
     ghost sound = { difference_laws };
+
+    fn holds_differences() -> bool {
+        Self::DIFFERENCES
+    }
 
     #[tactic(auto, using(crate::specs::Rows::proper_whole))]
     fn whole(clocks: u8) -> DifferenceZone {
@@ -75,7 +75,7 @@ impl Zone for DifferenceZone {
     #[tactic(auto, unfolding(crate::specs::DifferenceCalls::constrained))]
     fn constrain(&self, constraint: Constraint) -> Result<DifferenceZone, ZoneFault>
         ensures value { result ≡ constrained self.now constraint }
-        ensures paths { in_range self.now.row.clocks constraint ≡ true → ForSome self.now.row.bounds (λ m. Tightens self.now.row.clocks m constraint result) }
+        ensures paths { in_range self.now.row.clocks constraint ≡ true → self.now.row.empty ≡ false → Tightens self.now constraint result }
     {
         judge(self.row.clocks, Self::DIFFERENCES, constraint)?;
         self.tightened(constraint)
@@ -93,7 +93,7 @@ impl Zone for DifferenceZone {
     }
 
     fn is_empty(&self) -> bool {
-        self.row.bounds.is_none()
+        self.row.empty
     }
 
     fn is_within(&self, other: &DifferenceZone) -> bool {

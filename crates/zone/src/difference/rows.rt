@@ -1,10 +1,10 @@
 // The calls of the difference kind on rows.
 ghost use Rattle.std.specs.Prelude.{◌≡◌};
-ghost use Rattle.zone.specs.Grids.{entry, listed, reset_grid};
 ghost use Rattle.zone.specs.DifferenceRows.{proper, empty_row, whole_row, elapsed_row, reset_row, within_rows, zero_row};
 
 use super::bounds;
 use super::row::DifferenceRow;
+use crate::bound::Bound;
 use crate::judging::is_countable;
 
 impl DifferenceRow {
@@ -15,7 +15,8 @@ impl DifferenceRow {
     {
         DifferenceRow {
             clocks,
-            bounds: None,
+            empty: true,
+            bounds: [Bound::Free; 49],
         }
     }
 
@@ -28,32 +29,37 @@ impl DifferenceRow {
         }
         DifferenceRow {
             clocks,
-            bounds: Some(bounds::whole(clocks)),
+            empty: false,
+            bounds: bounds::whole(clocks),
         }
     }
 
-    #[tactic(auto, unfolding(crate::specs::DifferenceRows::changed_row))]
+    // An empty row stays as it is, here and in `reset`: a function that takes the change would need a clause on what it gives.
+    #[tactic(auto, unfolding(crate::specs::DifferenceRows::changed_row, crate::specs::DifferenceRows::grid_row))]
     pub(super) fn elapsed(&self) -> DifferenceRow
         ensures { result ≡ elapsed_row self.now }
     {
+        if self.empty {
+            return *self;
+        }
         DifferenceRow {
-            bounds: self.bounds.as_ref().map(bounds::elapsed),
-            ..*self
+            clocks: self.clocks,
+            empty: false,
+            bounds: bounds::elapsed(&self.bounds),
         }
     }
 
-    #[tactic(auto, unfolding(crate::specs::DifferenceRows::changed_row))]
+    #[tactic(auto, unfolding(crate::specs::DifferenceRows::changed_row, crate::specs::DifferenceRows::grid_row))]
     pub(super) fn reset(&self, clock: u8) -> DifferenceRow
         ensures { result ≡ reset_row self.now clock }
     {
+        if self.empty {
+            return *self;
+        }
         DifferenceRow {
-            // Without the clause, nothing is known here of what the call gives.
-            bounds: self.bounds.as_ref().map(
-                |bounds|
-                    ensures { result ≡ listed (reset_grid (entry bounds.now) clock) }
-                { bounds::reset(bounds, clock) },
-            ),
-            ..*self
+            clocks: self.clocks,
+            empty: false,
+            bounds: bounds::reset(&self.bounds, clock),
         }
     }
 
@@ -62,10 +68,11 @@ impl DifferenceRow {
         ensures { result ≡ proper self.now }
     {
         is_countable(self.clocks)
-            && self
-                .bounds
-                .as_ref()
-                .is_none_or(|bounds| bounds::are_closed(self.clocks, bounds))
+            && if self.empty {
+                bounds::is_blank(&self.bounds)
+            } else {
+                bounds::are_closed(self.clocks, &self.bounds)
+            }
     }
 
     #[tactic(auto, unfolding(crate::specs::DifferenceRows::within_rows))]
@@ -73,17 +80,13 @@ impl DifferenceRow {
         ensures { result ≡ within_rows self.now other.now }
     {
         self.clocks == other.clocks
-            && match (&self.bounds, &other.bounds) {
-                (None, _) => true,
-                (Some(_), None) => false,
-                (Some(bounds), Some(others)) => bounds::imply(bounds, others),
-            }
+            && (self.empty || !other.empty && bounds::imply(&self.bounds, &other.bounds))
     }
 
     #[tactic(auto, unfolding(crate::specs::DifferenceRows::zero_row))]
     pub(super) fn holds_zero(&self) -> bool
         ensures { result ≡ zero_row self.now }
     {
-        self.bounds.as_ref().is_some_and(bounds::hold_zero)
+        !self.empty && bounds::hold_zero(&self.bounds)
     }
 }

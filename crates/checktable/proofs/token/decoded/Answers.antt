@@ -1,6 +1,9 @@
 use Rattle.std.proofs.Common.{sym, ◌∙◌}
-use Rattle.checktable.proofs.Decoding.{hex_bytes_written}
+use Rattle.checktable.proofs.Decoding.{hex_bytes_written, no_hex}
 use Rattle.checktable.proofs.token.decoded.Goals as goal
+
+pub returns-then-not-is_hex : goal.returns-then-not-is_hex
+returns-then-not-is_hex c = no_hex c.args.text.now (c.if-not-is_hex.ensures)
 
 pub returns : goal.returns
 returns c =
