@@ -26,7 +26,7 @@ impl<Z: Zone, Q: Question> Book<Z, Q> {
             .iter()
             .filter(|place| self.covers_start(place))
             .map(|place| self.question.left(place.number))
-            .min()
+            .reduce(|least, left| left.min(least))
     }
 }
 
